@@ -1,0 +1,13 @@
+pub mod Limits
+pub mod Text
+pub mod Elements
+pub mod Nesting
+pub mod Event
+pub mod Rows
+pub mod Shapes
+pub mod Look
+pub mod Change
+pub mod States
+pub mod Actions
+pub mod Rules
+pub mod Reader
