@@ -1,1 +1,2 @@
 pub mod SchemaFits
+pub mod Stars

@@ -6,28 +6,7 @@ use mathlib.Core.List.{List, [], _∷_, _++_, map, reverse}
 use lib.ListN.{length, getD, set, drop}
 use lib.Dec.{eqb, ltb}
 use Rattle.definition.specs.Elements.{tag, key}
-use Rattle.definition.specs.Rows.{
-  Row,
-  Table,
-  table,
-  list,
-  state,
-  transition,
-  region,
-  member,
-  opened,
-  openRegion,
-  num,
-  blank,
-  Cell,
-  noCell,
-  cellAt,
-  withCell,
-  Numbers,
-  tableOf,
-  currentState,
-  currentTransition,
-}
+use Rattle.definition.specs.Rows.{Row, Table, table, list, state, transition, region, member, opened, openRegion, num, blank, columnsOf, Class, free, own, docId, above, mark, len, code, row, existing, text, by, Cell, noCell, cellAt, withCell, Numbers, tableOf, currentState, currentTransition}
 use Rattle.definition.specs.Shapes.{Source, absent, trimmed, content, quoted, value, filled, given, word, Filling, Shape, shapeAt}
 use Rattle.definition.specs.Look.{Field, Look}
 
@@ -317,9 +296,28 @@ unfolding withCell cellOf cellAt
 filledBy l i [] r = r
 filledBy l i (f ∷ fs) r = filledBy l i fs (withCell (f .column) (cellOf l i (cellAt r (f .column)) (f .source)) r)
 
-unfoldable pub putAll : List Put → Row → Row
-putAll [] r = r
-putAll (p ∷ ps) r = putAll ps (set r (p .column) (p .to))
+-- Numbers go into number columns only: what a text column holds is its source's alone.
+unfoldable pub isNumber : Class → Bool
+isNumber (text r) = false
+isNumber len = false
+isNumber free = true
+isNumber own = true
+isNumber docId = true
+isNumber above = true
+isNumber mark = true
+isNumber (code a b) = true
+isNumber (row t) = true
+isNumber (existing t) = true
+isNumber (by c k) = true
+
+unfoldable pub putOne : List Class → Put → Row → Row
+unfolding isNumber
+putOne cs p r = elim (isNumber (getD cs (p .column) free)) [ true ↦ set r (p .column) (p .to) | false ↦ r ]
+
+unfoldable pub putAll : List Class → List Put → Row → Row
+unfolding putOne
+putAll cs [] r = r
+putAll cs (p ∷ ps) r = putAll cs ps (putOne cs p r)
 
 -- ---- edits to tables
 
@@ -338,13 +336,13 @@ unfoldable pub onTable : ℕ → (Table → Table) → List Table → List Table
 onTable t f ts = set ts t (f (getD ts t []))
 
 unfoldable pub edited : Look → Edit → List Table → List Table
-unfolding onTable filledBy putAll blank shapeOf alterRow
+unfolding onTable filledBy putAll blank shapeOf alterRow columnsOf
 edited l (add w i ps) ts =
     let h : Shape = shapeOf (l .tag) w in
-    onTable (h .into) (λ rs. rs ++ putAll ps (filledBy l i (h .texts) (blank (h .into))) ∷ []) ts
+    onTable (h .into) (λ rs. rs ++ putAll (columnsOf (h .into)) ps (filledBy l i (h .texts) (blank (h .into))) ∷ []) ts
 edited l (alter w n ps) ts =
     let h : Shape = shapeOf (l .tag) w in
-    onTable (h .into) (λ rs. alterRow n (λ r. putAll ps (filledBy l 0 (h .texts) r)) rs) ts
+    onTable (h .into) (λ rs. alterRow n (λ r. putAll (columnsOf (h .into)) ps (filledBy l 0 (h .texts) r)) rs) ts
 
 unfoldable pub editedBy : Look → List Edit → List Table → List Table
 unfolding edited

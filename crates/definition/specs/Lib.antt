@@ -11,3 +11,4 @@ pub mod States
 pub mod Actions
 pub mod Rules
 pub mod Reader
+pub mod Stars

@@ -22,5 +22,4 @@ limits01 =
       members = 4096;
       drawn = 65535;
       charge = 65535;
-      nested = 64;
     }

@@ -194,7 +194,7 @@ unfoldable pub idIn : List Item → List ℕ
 idIn [] = []
 idIn (i ∷ is) = elim (eqb (i .key) (key .id)) [ true ↦ i .bytes | false ↦ idIn is ]
 
--- "`data` repeated in a state replaces the value in its row": the row's number from 1; the next one if there is none.
+-- "`data` repeated in a state replaces the value in its row": the row's number from 1; the next one if there is none. Other elements' ids are not looked up.
 unfoldable pub findItem : List ℕ → Table → ℕ → List ℕ → ℕ
 unfolding same textAt cellAt
 findItem t [] s w = 1
@@ -280,7 +280,7 @@ look s e =
       generated = oneIf (isGenerated (e .kind) g (valueItems (e .attributes)));
       charge = eventCharge g (n .names) e;
       base = o;
-      found = findItem t (tableOf n (table .items)) (currentState n) (idIn is);
+      found = elim (eqb g (tag .datum)) [ true ↦ findItem t (tableOf n (table .items)) (currentState n) (idIn is) | false ↦ 0 ];
       innermost = isInnermost (tableOf n (table .opened)) (tableOf n (table .openNames)) g (e .name);
       name = nameRow (keptName g (e .name));
       nameLength = length (keptName g (e .name));

@@ -2,7 +2,7 @@
 -- counters and text charge cover all rows and text stored, and keep the limits?"
 use Prim.Native.Nat.{ℕ, zero, suc, _+_}
 use mathlib.Core.Bool.{Bool, true, false, _&&_, _||_, not}
-use mathlib.Core.List.{List, [], _∷_, reverse}
+use mathlib.Core.List.{List, [], _∷_, _++_}
 use lib.ListN.{length, getD, take}
 use lib.Dec.{eqb, leb, ltb}
 use Rattle.definition.specs.declared.Limits.{Limits}
@@ -104,7 +104,8 @@ keeps s r (by c k) v vs = true
 
 unfoldable pub columnsKeep : Store → Row → List Class → Row → Bool
 unfolding keeps chosen
-columnsKeep s r [] vs = true
+columnsKeep s r [] [] = true
+columnsKeep s r [] (v ∷ vs) = false
 columnsKeep s r (c ∷ cs) [] = false
 columnsKeep s r (c ∷ cs) (v ∷ vs) = elim (keeps s r (chosen r c) v vs) [ true ↦ columnsKeep s r cs vs | false ↦ false ]
 
@@ -115,8 +116,9 @@ rowsKeep s cs (r ∷ rs) = elim (columnsKeep s r cs r) [ true ↦ rowsKeep s cs 
 
 unfoldable pub tablesKeep : Store → List (List Class) → List Table → Bool
 unfolding rowsKeep
-tablesKeep s [] ts = true
-tablesKeep s (cs ∷ css) [] = true
+tablesKeep s [] [] = true
+tablesKeep s [] (t ∷ ts) = false
+tablesKeep s (cs ∷ css) [] = false
 tablesKeep s (cs ∷ css) (t ∷ ts) = elim (rowsKeep s cs t) [ true ↦ tablesKeep s css ts | false ↦ false ]
 
 -- ---- "Names are distinct; state i's name leads to i."
@@ -190,28 +192,38 @@ openRegionsFit n =
 -- ---- limits
 
 -- The limit of each table's rows; the chart has one row.
+unfoldable pub chartLimits : Limits → List ℕ
+chartLimits L = 1 ∷ L .states ∷ L .transitions ∷ L .regions ∷ L .entries ∷ L .invokes ∷ L .items ∷ L .parameters ∷ L .members ∷ []
+
+-- Question 7 keeps the open elements; two open regions for each are enough.
+unfoldable pub openLimits : Limits → List ℕ
+openLimits L = L .opened ∷ L .opened ∷ (L .opened + L .opened) ∷ []
+
 unfoldable pub tableLimits : Limits → List ℕ
-tableLimits L =
-    1 ∷ L .states ∷ L .transitions ∷ L .regions ∷ L .entries ∷ L .invokes ∷ L .items ∷ L .parameters ∷ L .members ∷ L .opened ∷ L .opened ∷ L .nested ∷ []
+unfolding chartLimits openLimits
+tableLimits L = chartLimits L ++ openLimits L
 
 unfoldable pub allWithin : List ℕ → List Table → Bool
 allWithin [] ts = true
 allWithin (m ∷ ms) [] = true
 allWithin (m ∷ ms) (t ∷ ts) = elim (leb (length t) m) [ true ↦ allWithin ms ts | false ↦ false ]
 
+-- "65,535 numbers drawn from each counter (doc ids and generated names too)"; "text charge, at most 65,535".
+unfoldable pub countersWithin : Limits → Numbers → Bool
+countersWithin L n = leb (n .ids) (L .drawn) && leb (n .docs) (L .drawn) && leb (n .names) (L .drawn) && leb (n .charge) (L .charge)
+
 -- "Would the chart stay within the limits?" Question 15 asks this of the chart after the event.
 unfoldable pub withinLimits : Limits → Numbers → Bool
-unfolding allWithin tableLimits
-withinLimits L n =
-    allWithin (tableLimits L) (n .tables) && leb (n .ids) (L .drawn) && leb (n .docs) (L .drawn) && leb (n .names) (L .drawn) && leb (n .charge) (L .charge)
+unfolding allWithin chartLimits countersWithin
+withinLimits L n = allWithin (chartLimits L) (n .tables) && countersWithin L n
 
 -- ---- the rules, one list
 
 unfoldable pub keepsRules : Limits → Store → Bool
-unfolding withinLimits tablesKeep schema namesDistinct numbersFit openNamesFit openRegionsFit isRowOrZero
+unfolding allWithin tableLimits countersWithin tablesKeep schema namesDistinct numbersFit openNamesFit openRegionsFit isRowOrZero
 keepsRules L s =
     let n : Numbers = s .numbers in
-    elim (withinLimits L n && leb (length (s .text)) (n .charge)) [
+    elim (allWithin (tableLimits L) (n .tables) && countersWithin L n && leb (length (s .text)) (n .charge)) [
       | false ↦ false
       | true ↦
           tablesKeep s schema (n .tables) && namesDistinct s && numbersFit n && openNamesFit L (tableOf n (table .opened)) (tableOf n (table .openNames)) && openRegionsFit n

@@ -22,7 +22,6 @@ pub struct Limits {
     pub members: u32,
     pub drawn: u32,
     pub charge: u32,
-    pub nested: u32,
 }
 
 impl Chart {
@@ -57,8 +56,6 @@ impl Chart {
     pub const DRAWN: u32 = 65_535;
 
     pub const CHARGE: u32 = 65_535;
-    /// Open regions: two for each open element are more than any chart has.
-    pub const NESTED: u32 = 64;
 
     pub fn limits() -> Limits
         ensures { λ r. ⌜ r ≡ limits01 ⌝ }
@@ -80,7 +77,6 @@ impl Chart {
             members: Chart::MEMBERS,
             drawn: Chart::DRAWN,
             charge: Chart::CHARGE,
-            nested: Chart::NESTED,
         }
     }
 }

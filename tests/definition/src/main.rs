@@ -14,7 +14,7 @@ use std::process::ExitCode;
 use std::time::Instant;
 
 const USAGE: &str = "usage: definition --seed S --count N [--middle] [--table]";
-/// Streams in one theorem: the checker's step limit is per theorem.
+/// Streams in one module.
 const BATCH: usize = 25;
 
 fn option(arguments: &[String], name: &str) -> Result<u64, String> {

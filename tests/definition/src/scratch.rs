@@ -8,6 +8,7 @@ use std::process::Command;
 const COPIED: [&str; 2] = ["definition", "cases"];
 /// Modules in one crate: a crate is checked by one thread.
 const MODULES: usize = 8;
+const CLAIM: &str = "right";
 
 fn repository() -> PathBuf {
     Path::new(env!("CARGO_MANIFEST_DIR")).join("../..")
@@ -35,25 +36,31 @@ fn write(path: &Path, text: &str) -> Result<(), String> {
 
 const HEADER: &str = "\
 use mathlib.Core.Path.{_≡_, refl}
+use mathlib.Core.Bool.{true}
 use mathlib.Core.List.{List, [], _∷_}
 use Rattle.definition.specs.Text.{str}
-use Rattle.cases.specs.Compare.{Case, wrong}
+use Rattle.cases.specs.Compare.{Case, right}
 ";
 
-fn module(cases: &[Case], first: usize) -> String {
-    let rows: String = cases.iter().map(|case| format!("    {}\n    ∷ ", case.literal())).collect();
+/// A case and the claim that it is right. The checker's step limit is per claim, and its refusal names the claim.
+fn claim(case: &Case, place: usize) -> String {
+    let literal = case.literal();
     format!(
-        "{HEADER}
-unfoldable pub cases : List Case
+        "
+unfoldable pub case{place} : Case
 unfolding str
-cases =
-{rows}[]
+case{place} = {literal}
 
-pub none-wrong : wrong {first} cases ≡ []
-unfolding wrong cases
-none-wrong = refl
+pub {CLAIM}{place} : right case{place} ≡ true
+unfolding right case{place}
+{CLAIM}{place} = refl
 "
     )
+}
+
+fn module(cases: &[Case], first: usize) -> String {
+    let claims: String = cases.iter().zip(first..).map(|(case, place)| claim(case, place)).collect();
+    format!("{HEADER}{claims}")
 }
 
 /// One crate for each `MODULES` batches; their names.
@@ -73,11 +80,11 @@ fn crates(root: &Path, cases: &[Case], batch: usize) -> Result<Vec<String>, Stri
     Ok(names)
 }
 
-/// What follows `(found)`'s list in a refusal: the places of the wrong cases.
+/// The places of the cases whose claims are refused.
 fn places(output: &str) -> Vec<usize> {
-    let differs = output.split("expected) and the other has `").skip(1);
-    let lists = differs.filter_map(|rest| rest.split('`').next());
-    lists.flat_map(|list| list.split(" ∷ ").filter_map(|number| number.trim().parse().ok())).collect()
+    let head = format!("error: `{CLAIM}");
+    let refused = output.split(&head).skip(1);
+    refused.filter_map(|rest| rest.split('`').next()?.parse().ok()).collect()
 }
 
 fn check(root: &Path) -> Result<(bool, String), String> {
