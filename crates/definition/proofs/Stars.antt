@@ -1,9 +1,8 @@
 -- The lines marked ★ of document 01: one table, one theorem.
-use Prim.Native.Nat.{ℕ}
 use mathlib.Core.Path.{_≡_, refl}
-use mathlib.Core.List.{List, []}
-use Rattle.definition.specs.Stars.{wrong, stars}
+use mathlib.Core.List.{[]}
+use Rattle.definition.specs.Stars.{wrong, right, stars}
 
-pub none-wrong : wrong 1 stars ≡ []
-unfolding wrong stars
+pub none-wrong : wrong right 1 stars ≡ []
+unfolding wrong right stars
 none-wrong = refl

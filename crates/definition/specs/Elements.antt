@@ -249,11 +249,11 @@ isMasked k = among k (key .cond ∷ key .expr ∷ key .array ∷ [])
 -- "State names stand in `id` and `initial` of scxml, state, parallel, final and history and in a transition's `target`."
 unfoldable pub isName : ℕ → ℕ → Bool
 unfolding namesState
-isName g k = namesState g && eqb k (key .id)
+isName g k = eqb k (key .id) && namesState g
 
 unfoldable pub isNames : ℕ → ℕ → Bool
 unfolding namesState
-isNames g k = (namesState g && eqb k (key .initial)) || (eqb g (tag .transition) && eqb k (key .target))
+isNames g k = (eqb k (key .initial) && namesState g) || (eqb k (key .target) && eqb g (tag .transition))
 
 unfoldable pub roleOf : ℕ → ℕ → Role
 unfolding isMasked isName isNames

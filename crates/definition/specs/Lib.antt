@@ -12,3 +12,4 @@ pub mod Actions
 pub mod Rules
 pub mod Reader
 pub mod Stars
+pub mod Renaming

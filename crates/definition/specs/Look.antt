@@ -5,7 +5,7 @@ use mathlib.Core.Option.{Option, none, some}
 use mathlib.Core.List.{List, [], _∷_, _++_, map}
 use lib.ListN.{length, getD, take, drop, replicate}
 use lib.Dec.{eqb, ltb}
-use Rattle.definition.specs.Text.{same, placeIn, lowered, isTrue, Span, Piece, eventWords, stateWords, wildcard, trim, quoted, generatedName}
+use Rattle.definition.specs.Text.{same, placeIn, lowered, isTrue, Span, Piece, eventWords, stateWords, stateWordsAt, wildcard, trim, quoted, generatedName}
 use Rattle.definition.specs.Elements.{tag, key, Role, name, names, masked, plain, roleOf, namesState, keyOf, tagOf, codings, wordsTaken}
 use Rattle.definition.specs.Event.{Attribute, Event, kind}
 use Rattle.definition.specs.Rows.{Row, Table, table, state, item, opened, num, Cell, cellAt, textAt, Numbers, tableOf, Store, innermost, currentState}
@@ -137,13 +137,10 @@ ownName names o v = []
 ownName masked o v = []
 ownName plain o v = []
 
-unfoldable pub movePiece : ℕ → Piece → Piece
-movePiece o p = record { off = o + p .off; word = p .word }
-
 unfoldable pub wordNames : Role → ℕ → List ℕ → List Piece
-unfolding stateWords movePiece
+unfolding stateWordsAt
 wordNames name o v = []
-wordNames names o v = map (movePiece o) (stateWords v)
+wordNames names o v = stateWordsAt o v
 wordNames masked o v = []
 wordNames plain o v = []
 

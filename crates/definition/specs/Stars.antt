@@ -99,10 +99,9 @@ right x =
     eqb (f .number) (x .answer) && eqb (f .event) (x .refused) && holdsAll (f .store) (x .held)
 
 -- The places, from i, of the rows that are not right.
-unfoldable pub wrong : ℕ → List Star → List ℕ
-unfolding right
-wrong i [] = []
-wrong i (x ∷ xs) = elim (right x) [ true ↦ wrong (suc i) xs | false ↦ i ∷ wrong (suc i) xs ]
+unfoldable pub wrong : {A : Type 0} → (A → Bool) → ℕ → List A → List ℕ
+wrong right i [] = []
+wrong right i (x ∷ xs) = elim (right x) [ true ↦ wrong right (suc i) xs | false ↦ i ∷ wrong right (suc i) xs ]
 
 -- A stream that is taken, and what the chart holds after it.
 abbrev gives : List ℕ → List Held → Star

@@ -106,6 +106,11 @@ unfoldable pub eventWords : List ℕ → List Piece
 unfolding strippedPiece wordsBy isSpace
 eventWords v = map strippedPiece (wordsBy isSpace v)
 
+-- The words of a value that begins at o in a text.
+unfoldable pub stateWordsAt : ℕ → List ℕ → List Piece
+unfolding pieces isSeparator
+stateWordsAt o v = pieces isSeparator o [] v
+
 unfoldable pub stateWords : List ℕ → List Piece
 unfolding wordsBy isSeparator
 stateWords v = wordsBy isSeparator v
@@ -166,6 +171,14 @@ decimal n = digits 20 n
 unfoldable pub generatedName : ℕ → List ℕ
 unfolding str decimal
 generatedName n = str "__id" ++ decimal n
+
+-- It begins with `__id`.
+unfoldable pub startsGenerated : List ℕ → Bool
+startsGenerated [] = false
+startsGenerated (a ∷ []) = false
+startsGenerated (a ∷ b ∷ []) = false
+startsGenerated (a ∷ b ∷ c ∷ []) = false
+startsGenerated (a ∷ b ∷ c ∷ d ∷ r) = eqb a 95 && eqb b 95 && eqb c 105 && eqb d 100
 
 -- ---- an assign's text
 

@@ -1,0 +1,115 @@
+-- Small facts that several proofs use.
+use Prim.Native.Nat.{ℕ, zero, suc, _+_, _<_, _≤_}
+use mathlib.Core.Path.{_≡_, refl, sym, ap, ap₂, _∙_, subst}
+use mathlib.Core.Bool.{Bool, true, false, _&&_, cond}
+use mathlib.Core.Option.{Option, none, some}
+use mathlib.Core.List.{List, [], _∷_, _++_, map}
+use lib.ListN.{length, getD, set}
+use lib.Dec.{T, eqb}
+use borrow.Author.Tests.{eqb-true, eq-eqb}
+use native.Mathlib.Omega.{arith}
+use Rattle.definition.specs.Text.{same}
+use Rattle.definition.specs.Elements.{Role, name, names, masked, plain}
+use Rattle.definition.specs.Shapes.{rank, sameRole}
+
+pub and-left : (p q : Bool) → (p && q) ≡ true → p ≡ true
+and-left true q e = refl
+and-left false q e = e
+
+pub and-right : (p q : Bool) → (p && q) ≡ true → q ≡ true
+and-right true q e = e
+and-right false q e = let z : false ≡ true = e in cc
+
+pub bool-ext : (p q : Bool) → (p ≡ true → q ≡ true) → (q ≡ true → p ≡ true) → p ≡ q
+bool-ext true true f g = refl
+bool-ext true false f g = sym (f refl)
+bool-ext false true f g = g refl
+bool-ext false false f g = refl
+
+pub true-is-false : {X : Type 0} → true ≡ false → X
+true-is-false e = absurd (subst T e tt)
+
+pub T-of : (c : Bool) → c ≡ true → T c
+T-of true e = tt
+T-of false e = true-is-false (sym e)
+
+pub is-true : (c : Bool) → T c → c ≡ true
+is-true true t = refl
+is-true false t = absurd t
+
+pub none-is-some : {A X : Type 0} (a : A) → none ≡ some a → X
+none-is-some a e = let y : _≡_ {A = ℕ} 0 1 = cc in absurd (omega arith)
+
+pub some-inj : {A : Type 0} (d a b : A) → some a ≡ some b → a ≡ b
+some-inj {A} d a b e = ap (value d) e
+  where
+    value : A → Option A → A
+    value d none = d
+    value d (some x) = x
+
+-- A definition's `elim` on a test, as `cond`, whose arguments `rw` can see.
+pub elim-cond : {A : Type 0} (c : Bool) (x y : A) → elim c as (λ b. A) [ true ↦ x | false ↦ y ] ≡ cond c x y
+elim-cond true x y = refl
+elim-cond false x y = refl
+
+-- ---- the test on bytes
+
+pub same-refl : (a : List ℕ) → same a a ≡ true
+unfolding same
+same-refl [] = refl
+same-refl (x ∷ xs) = rw (eq-eqb x x refl, same) (same-refl xs)
+
+pub same-eq : (a b : List ℕ) → same a b ≡ true → a ≡ b
+unfolding same
+same-eq [] [] e = refl
+same-eq [] (y ∷ ys) e = cc
+same-eq (x ∷ xs) [] e = cc
+same-eq (x ∷ xs) (y ∷ ys) e = go (eqb x y) refl (same-eq xs ys)
+  where
+    go : (c : Bool) → eqb x y ≡ c → (same xs ys ≡ true → xs ≡ ys) → x ∷ xs ≡ y ∷ ys
+    go true q ih = ap₂ _∷_ (eqb-true x y q) (ih (rw (q, same) at e))
+    go false q ih = let z : false ≡ true = rw (q, same) at e in cc
+
+-- ---- roles
+
+unrank : ℕ → Role
+unrank n = getD (name ∷ names ∷ masked ∷ []) n plain
+
+unrank-rank : (r : Role) → unrank (rank r) ≡ r
+unfolding unrank rank
+unrank-rank name = refl
+unrank-rank names = refl
+unrank-rank masked = refl
+unrank-rank plain = refl
+
+pub role-eq : (r q : Role) → sameRole r q ≡ true → r ≡ q
+unfolding sameRole
+role-eq r q e = sym (unrank-rank r) ∙ ap unrank (eqb-true (rank r) (rank q) e) ∙ unrank-rank q
+
+-- ---- lists
+
+abbrev pub All {ℓ} : {A : Type ℓ} → (A → Type 0) → List A → Type 0
+All P [] = Unit {0}
+All P (x ∷ xs) = P x × All P xs
+
+pub All-append : {A : Type 0} (P : A → Type 0) (xs ys : List A) → All P xs → All P ys → All P (xs ++ ys)
+All-append P [] ys a b = b
+All-append P (x ∷ xs) ys a b = (a .0, All-append P xs ys (a .1) b)
+
+pub All-getD : {A : Type 0} (P : A → Type 0) (d : A) → P d → (xs : List A) → All P xs → (i : ℕ) → P (getD xs i d)
+All-getD P d k [] a i = k
+All-getD P d k (x ∷ xs) a zero = a .0
+All-getD P d k (x ∷ xs) a (suc i) = All-getD P d k xs (a .1) i
+
+-- What stands at a place after a set: the new value, or what stood there.
+pub getD-set : {A : Type 0} (P : ℕ → A → Type 0) (xs : List A) (d : A) (k : ℕ) (x : A) → ((i : ℕ) → P i (getD xs i d)) → P k x → (i : ℕ) → P i (getD (set xs k x) i d)
+getD-set P [] d k x h p i = h i
+getD-set P (y ∷ ys) d zero x h p zero = p
+getD-set P (y ∷ ys) d zero x h p (suc i) = h (suc i)
+getD-set P (y ∷ ys) d (suc k) x h p zero = h zero
+getD-set P (y ∷ ys) d (suc k) x h p (suc i) = getD-set (λ j. P (suc j)) ys d k x (λ j. h (suc j)) p i
+
+pub getD-append : {A : Type 0} (P : A → Type 0) (xs ys : List A) (d : A) → ((i : ℕ) → P (getD xs i d)) → ((i : ℕ) → P (getD ys i d)) → (i : ℕ) → P (getD (xs ++ ys) i d)
+getD-append P [] ys d h k i = k i
+getD-append P (x ∷ xs) ys d h k zero = h zero
+getD-append P (x ∷ xs) ys d h k (suc i) = getD-append P xs ys d (λ j. h (suc j)) k i

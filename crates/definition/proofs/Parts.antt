@@ -1,0 +1,120 @@
+-- The words of a plain value and its trimmed part lie inside it.
+use Prim.Native.Nat.{ℕ, zero, suc, _+_, _≤_}
+use mathlib.Core.Path.{_≡_, refl, sym, ap, _∙_}
+use mathlib.Core.Bool.{Bool, true, false, _&&_, cond}
+use mathlib.Core.List.{List, [], _∷_, _++_, map, reverse, append-nil}
+use lib.ListN.{length, drop, length-drop, length-reverse}
+use lib.Dec.{eqb}
+use lib.Seq.{drop-drop}
+use native.Mathlib.Omega.{arith}
+use Rattle.definition.specs.Text.{
+  Span,
+  bytesAt,
+  isSpace,
+  isSeparator,
+  Piece,
+  pieces,
+  wordsBy,
+  stripLast,
+  stripped,
+  strippedPiece,
+  eventWords,
+  stateWords,
+  leading,
+  bodyLength,
+  trim,
+}
+use Rattle.definition.specs.Elements.{key}
+use Rattle.definition.specs.Look.{spanOf, isEvents, isNamelist, wordSpans}
+use Rattle.definition.proofs.Base.{All, elim-cond}
+use Rattle.definition.proofs.Words.{Located, pieces-located}
+use Rattle.definition.proofs.Names.{bytesAt-append}
+
+abbrev pub Inside : List ℕ → Span → Type 0
+Inside v sp = sp .off + sp .len ≤ length v
+
+-- ---- trimming
+
+leading-le : (v : List ℕ) → leading v ≤ length v
+unfolding leading
+leading-le [] = omega arith
+leading-le (b ∷ bs) = go (isSpace b) refl (leading-le bs)
+  where
+    go : (c : Bool) → isSpace b ≡ c → leading bs ≤ length bs → leading (b ∷ bs) ≤ suc (length bs)
+    go true e h = rw (e, leading) (omega arith)
+    go false e h = rw (e, leading) (omega arith)
+
+body-le : (v : List ℕ) → bodyLength v ≤ length v
+unfolding bodyLength
+body-le [] = omega arith
+body-le (b ∷ bs) = go (isSpace b && eqb (bodyLength bs) 0) refl (body-le bs)
+  where
+    go : (c : Bool) → (isSpace b && eqb (bodyLength bs) 0) ≡ c → bodyLength bs ≤ length bs → bodyLength (b ∷ bs) ≤ suc (length bs)
+    go true e h = rw (e, bodyLength) (omega arith)
+    go false e h = rw (e, bodyLength) (omega arith)
+
+trim-inside : (v : List ℕ) → Inside v (trim v)
+unfolding trim
+trim-inside v = omega (arith, leading-le v, body-le (drop (leading v) v), length-drop (leading v) v)
+
+-- ---- words
+
+strip-one : (b : ℕ) → stripLast (b ∷ []) ≡ cond (eqb b 46) [] (b ∷ [])
+unfolding stripLast
+strip-one b = elim-cond (eqb b 46) [] (b ∷ [])
+
+strip-two : (b c : ℕ) (r : List ℕ) → stripLast (b ∷ c ∷ r) ≡ cond (eqb b 46) (stripLast (c ∷ r)) (cond (eqb b 42 && eqb c 46) (stripLast r) (b ∷ c ∷ r))
+unfolding stripLast
+strip-two b c r =
+    elim-cond (eqb b 46) (stripLast (c ∷ r)) (elim (eqb b 42 && eqb c 46) as (λ z. List ℕ) [ true ↦ stripLast r | false ↦ b ∷ c ∷ r ])
+    ∙ ap (cond (eqb b 46) (stripLast (c ∷ r))) (elim-cond (eqb b 42 && eqb c 46) (stripLast r) (b ∷ c ∷ r))
+
+cond-le : (p : Bool) (x y : List ℕ) (n : ℕ) → length x ≤ n → length y ≤ n → length (cond p x y) ≤ n
+cond-le true x y n h k = h
+cond-le false x y n h k = k
+
+strip-le : (w : List ℕ) → length (stripLast w) ≤ length w
+unfolding stripLast
+strip-le [] = omega arith
+strip-le (b ∷ []) = rw (strip-one b) (cond-le (eqb b 46) [] (b ∷ []) 1 (omega arith) (omega arith))
+strip-le (b ∷ c ∷ r) =
+    let h : length (stripLast (c ∷ r)) ≤ suc (length r) = strip-le (c ∷ r) in
+    let k : length (stripLast r) ≤ length r = strip-le r in
+    rw (strip-two b c r)
+    (cond-le (eqb b 46) (stripLast (c ∷ r)) (cond (eqb b 42 && eqb c 46) (stripLast r) (b ∷ c ∷ r)) (suc (suc (length r))) (omega arith)
+    (cond-le (eqb b 42 && eqb c 46) (stripLast r) (b ∷ c ∷ r) (suc (suc (length r))) (omega arith) (omega arith)))
+
+stripped-le : (w : List ℕ) → length (stripped w) ≤ length w
+unfolding stripped
+stripped-le w = rw (length-reverse (stripLast (reverse w))) (omega (arith, strip-le (reverse w), length-reverse w))
+
+pieces-inside : (v : List ℕ) (ps : List Piece) → All (Located v) ps → All (Inside v) (map spanOf ps)
+unfolding spanOf
+pieces-inside v [] a = tt
+pieces-inside v (p ∷ ps) a = (a .0 .fits, pieces-inside v ps (a .1))
+
+stripped-inside : (v : List ℕ) (ps : List Piece) → All (Located v) ps → All (Inside v) (map spanOf (map strippedPiece ps))
+unfolding spanOf strippedPiece
+stripped-inside v [] a = tt
+stripped-inside v (p ∷ ps) a = (omega (arith, stripped-le (p .word), a .0 .fits), stripped-inside v ps (a .1))
+
+words-located : (f : ℕ → Bool) (v : List ℕ) → All (Located v) (wordsBy f v)
+unfolding wordsBy
+words-located f v = pieces-located f v 0 [] v [] (sym (append-nil v))
+
+-- ALL PARTS LIE INSIDE
+pub parts-inside : (g k : ℕ) (v : List ℕ) → All (Inside v) (wordSpans g k v)
+unfolding wordSpans eventWords stateWords
+parts-inside g k v = go (isEvents g k) (isNamelist g k) (eqb k (key .text)) refl refl refl
+  where
+    go : (p q r : Bool) → isEvents g k ≡ p → isNamelist g k ≡ q → eqb k (key .text) ≡ r → All (Inside v) (wordSpans g k v)
+    go true q r e f h = rw (e, wordSpans) (stripped-inside v (wordsBy isSpace v) (words-located isSpace v))
+    go false true r e f h = rw (e, wordSpans, f, wordSpans) (pieces-inside v (wordsBy isSeparator v) (words-located isSeparator v))
+    go false false true e f h = rw (e, wordSpans, f, wordSpans, h, wordSpans) (trim-inside v, tt)
+    go false false false e f h = rw (e, wordSpans, f, wordSpans, h, wordSpans) tt
+
+-- A part's bytes in any text that holds the value.
+pub part-bytes : (t : List ℕ) (o : ℕ) (v x : List ℕ) → drop o t ≡ v ++ x → (sp : Span) → Inside v sp
+    → bytesAt t (record { off = o + sp .off; len = sp .len }) ≡ bytesAt v sp
+unfolding bytesAt
+part-bytes t o v x h sp k = rw (← drop-drop (sp .off) o t, h) (bytesAt-append v x sp k)
