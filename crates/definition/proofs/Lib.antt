@@ -17,3 +17,4 @@ pub mod Replies
 pub mod RulesSame
 pub mod Shown
 pub mod Demand3
+pub mod EventLength
