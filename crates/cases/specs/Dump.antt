@@ -1,6 +1,6 @@
 -- A chart as a list of numbers, row by row and list by list, in the order of the judge's dump (tests/rufsm/README.md); for comparison with the Rust.
-use Prim.Native.Nat.{ℕ, zero, suc, _+_}
-use mathlib.Core.Bool.{Bool, true, false, _&&_, _||_, not}
+use Prim.Native.Nat.{ℕ, zero, suc}
+use mathlib.Core.Bool.{Bool, true, false, _&&_}
 use mathlib.Core.List.{List, [], _∷_, _++_, map}
 use lib.ListN.{length, getD}
 use lib.Dec.{eqb, leb, ltb}
@@ -9,7 +9,6 @@ use Rattle.definition.specs.Rows.{
   Row,
   Table,
   table,
-  entryKind,
   ownerKind,
   list,
   chart,
@@ -27,7 +26,6 @@ use Rattle.definition.specs.Rows.{
   Cell,
   cellAt,
   textAt,
-  Numbers,
   tableOf,
   Store,
   listed,

@@ -1,2 +1,10 @@
 pub mod Dump
 pub mod Compare
+pub mod Made
+pub mod Base
+pub mod Lent
+pub mod Internal
+pub mod Bounds
+pub mod Readings
+pub mod Calls
+pub mod Numbers

@@ -161,7 +161,8 @@ unknownFits L x n =
 -- An open unknown name has 1 to 64 bytes and is no known name.
 unfoldable pub openNamesFit : Limits → Table → Table → Bool
 unfolding unknownFits
-openNamesFit L [] ns = true
+openNamesFit L [] [] = true
+openNamesFit L [] (n ∷ ns) = false
 openNamesFit L (x ∷ xs) [] = false
 openNamesFit L (x ∷ xs) (n ∷ ns) = elim (not (eqb (num x (opened .tag)) 0) || unknownFits L x n) [ true ↦ openNamesFit L xs ns | false ↦ false ]
 
