@@ -6,10 +6,9 @@ mod numbers;
 mod scratch;
 
 use cases::Case;
-use rufsm::features;
 use rufsm::generate::{stream, Profile};
-use rufsm::judge::{self, Verdict};
-use std::collections::BTreeMap;
+use rufsm::judge;
+use rufsm::table::Table;
 use std::process::ExitCode;
 use std::time::Instant;
 
@@ -23,50 +22,20 @@ fn option(arguments: &[String], name: &str) -> Result<u64, String> {
     value.parse().map_err(|_| format!("{name}: not a number: {value}"))
 }
 
-/// How often each element, attribute and verdict occurs.
-#[derive(Default)]
-struct Counts(BTreeMap<String, usize>);
-
-impl Counts {
-    fn add(&mut self, label: &str) {
-        *self.0.entry(label.to_string()).or_default() += 1;
-    }
-
-    fn verdict(&mut self, verdict: &Verdict) {
-        self.add(match verdict {
-            Verdict::Accepted(_) => "verdict accepted",
-            Verdict::Refused { .. } => "verdict refused",
-            Verdict::LeftOut { .. } => "verdict left out",
-            Verdict::Form { .. } => "verdict out of form",
-            Verdict::Keys { .. } => "verdict repeated keys",
-        });
-    }
-
-    fn events(&mut self, bytes: &[u8]) {
-        let events: Vec<_> = rufsm::event::split(bytes).into_iter().filter_map(|raw| rufsm::event::parse(raw).ok()).collect();
-        features::of(&events).iter().for_each(|label| self.add(label));
-    }
-
-    fn print(&self, all: bool) {
-        self.0.iter().filter(|(label, _)| all || label.starts_with("verdict")).for_each(|(label, n)| println!("{label}: {n}"));
-    }
-}
-
 fn compare(arguments: &[String]) -> Result<(), String> {
     let (seed, count) = (option(arguments, "--seed")?, option(arguments, "--count")?);
     let has = |name: &str| arguments.iter().any(|argument| argument == name);
     let profile = if has("--middle") { Profile::Middle } else { Profile::Small };
     let begin = Instant::now();
-    let (mut counts, mut cases) = (Counts::default(), Vec::new());
+    let (mut table, mut cases) = (Table::new(), Vec::new());
     for index in 0..count {
         let bytes = stream(seed, index, profile);
         let verdict = judge::judge(&bytes).map_err(|absent| absent.to_string())?;
-        counts.verdict(&verdict);
-        counts.events(&bytes);
+        table.add(&bytes, &verdict);
         cases.push(Case::new(format!("{seed}-{index}"), bytes, &verdict));
     }
     let wrong = scratch::wrong(&cases, BATCH)?;
-    counts.print(has("--table"));
+    print!("{}", if has("--table") { table.print() } else { format!("accepted: {}\n", table.accepted) });
     println!("streams: {count}, different: {}, seconds: {:.0}", wrong.len(), begin.elapsed().as_secs_f64());
     wrong.iter().for_each(|&place| eprintln!("{}", cases[place].shown()));
     if wrong.is_empty() { Ok(()) } else { Err(format!("{} streams differ", wrong.len())) }
