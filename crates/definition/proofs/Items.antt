@@ -69,8 +69,8 @@ module _ (ρ : List ℕ → List ℕ) (R : Total ρ) where
   pub moved-length : (q : Role) (v w : List ℕ) → Moved ρ q v w → length w ≡ length v
   moved-length name v w m = rw m (R .len v)
   moved-length names v w m = rw m (length-rename ρ R [] v ∙ omega arith)
-  moved-length masked v w m = m
-  moved-length plain v w m = ap length m
+  moved-length masked v w m = rw m
+  moved-length plain v w m = rw m
 
   pub record AttributeRel (g : ℕ) (a b : Attribute) : Type 0 where
     pub key : b .key ≡ a .key

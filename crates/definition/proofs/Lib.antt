@@ -18,3 +18,5 @@ pub mod RulesSame
 pub mod Shown
 pub mod Demand3
 pub mod EventLength
+pub mod Swap
+pub mod Partners

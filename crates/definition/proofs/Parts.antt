@@ -102,14 +102,23 @@ words-located : (f : ℕ → Bool) (v : List ℕ) → All (Located v) (wordsBy f
 unfolding wordsBy
 words-located f v = pieces-located f v 0 [] v [] (sym (append-nil v))
 
+-- By whatever bytes words are parted.
+events-inside : (v : List ℕ) → All (Inside v) (map spanOf (eventWords v))
+unfolding eventWords
+events-inside v = stripped-inside v (wordsBy _ v) (words-located _ v)
+
+states-inside : (v : List ℕ) → All (Inside v) (map spanOf (stateWords v))
+unfolding stateWords
+states-inside v = pieces-inside v (wordsBy _ v) (words-located _ v)
+
 -- ALL PARTS LIE INSIDE
 pub parts-inside : (g k : ℕ) (v : List ℕ) → All (Inside v) (wordSpans g k v)
-unfolding wordSpans eventWords stateWords
+unfolding wordSpans
 parts-inside g k v = go (isEvents g k) (isNamelist g k) (eqb k (key .text)) refl refl refl
   where
     go : (p q r : Bool) → isEvents g k ≡ p → isNamelist g k ≡ q → eqb k (key .text) ≡ r → All (Inside v) (wordSpans g k v)
-    go true q r e f h = rw (e, wordSpans) (stripped-inside v (wordsBy isSpace v) (words-located isSpace v))
-    go false true r e f h = rw (e, wordSpans, f, wordSpans) (pieces-inside v (wordsBy isSeparator v) (words-located isSeparator v))
+    go true q r e f h = rw (e, wordSpans) (events-inside v)
+    go false true r e f h = rw (e, wordSpans, f, wordSpans) (states-inside v)
     go false false true e f h = rw (e, wordSpans, f, wordSpans, h, wordSpans) (trim-inside v, tt)
     go false false false e f h = rw (e, wordSpans, f, wordSpans, h, wordSpans) tt
 
