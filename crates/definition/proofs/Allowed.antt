@@ -1,21 +1,21 @@
 -- What an event adds to the text has bytes 0 to 127 only, and so has every text that a row holds.
 use Prim.Native.Nat.{ℕ, zero, suc, _+_, _<_, _/_, _%_}
-use mathlib.Core.Path.{_≡_, refl, sym, ap, _∙_, subst}
+use mathlib.Core.Path.{_≡_, refl}
 use mathlib.Core.Bool.{Bool, true, false}
 use mathlib.Core.Option.{Option, none, some}
 use mathlib.Core.List.{List, [], _∷_, _++_}
-use lib.ListN.{length, take, drop}
-use lib.Dec.{T, eqb, ltb, lt→ltb, ltb→lt}
+use lib.ListN.{take, drop}
+use lib.Dec.{eqb, ltb, lt→ltb, ltb→lt}
 use native.Mathlib.Omega.{arith}
-use Rattle.definition.specs.Text.{str, isAllowed, allAllowed, Span, bytesAt, trim, trimmed, digits, decimal, generatedName, escapedQuotes, quoted}
-use Rattle.definition.specs.Elements.{tag, key, tagOf}
+use Rattle.definition.specs.Text.{str, isAllowed, allAllowed, bytesAt, trim, trimmed, digits, decimal, generatedName, escapedQuotes, quoted}
+use Rattle.definition.specs.Elements.{tag, tagOf}
 use Rattle.definition.specs.Event.{Attribute, Event}
 use Rattle.definition.specs.Rows.{Cell, textFrom, textAt}
 use Rattle.definition.specs.Look.{Item, valueItems, textItems, generatedItems, isGenerated, payload, itemsOf}
 use Rattle.definition.proofs.Base.{is-true, T-of, All, All-append}
 use Rattle.definition.proofs.Words.{Total}
 use Rattle.definition.proofs.On7.{allowed-head, allowed-tail, allowed-cons, allowed-append}
-use Rattle.definition.proofs.Items.{TextAllowed, AttributeRel, AttributesRel, EventRel}
+use Rattle.definition.proofs.Items.{TextAllowed, AttributesRel, EventRel}
 
 pub allowed-take : (n : ℕ) (v : List ℕ) → allAllowed v ≡ true → allAllowed (take n v) ≡ true
 unfolding allAllowed

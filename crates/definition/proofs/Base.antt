@@ -1,10 +1,10 @@
 -- Small facts that several proofs use.
-use Prim.Native.Nat.{ℕ, zero, suc, _+_, _<_, _≤_}
+use Prim.Native.Nat.{ℕ, zero, suc}
 use mathlib.Core.Path.{_≡_, refl, sym, ap, ap₂, _∙_, subst}
 use mathlib.Core.Bool.{Bool, true, false, _&&_, cond}
 use mathlib.Core.Option.{Option, none, some}
-use mathlib.Core.List.{List, [], _∷_, _++_, map}
-use lib.ListN.{length, getD, set}
+use mathlib.Core.List.{List, [], _∷_, _++_}
+use lib.ListN.{getD, set}
 use lib.Dec.{T, eqb}
 use borrow.Author.Tests.{eqb-true, eq-eqb}
 use native.Mathlib.Omega.{arith}

@@ -1,101 +1,24 @@
 -- DEMAND 3, proved: runs over a list of calls and over its renamed partner agree in every answer, position, number and plain text, with names renamed.
-use Prim.Native.Nat.{ℕ, zero, suc, _+_, _-_, _≤_, _<_}
+use Prim.Native.Nat.{ℕ, zero, suc, _+_}
 use mathlib.Core.Path.{_≡_, refl, sym, ap, ap₂, _∙_, subst, subst₂}
 use mathlib.Core.Bool.{Bool, true, false, _&&_, cond}
-use mathlib.Core.Option.{Option, none, some}
 use mathlib.Core.List.{List, [], _∷_, _++_}
-use lib.ListN.{length, getD, set, take, drop, replicate, length-append, length-drop, length-take, take-append-drop}
-use lib.Dec.{eqb, leb, ltb}
+use lib.ListN.{length, getD, take, drop, replicate, length-append, length-drop, length-take, take-append-drop}
+use lib.Dec.{leb}
 use lib.Seq.{take-append-seam}
-use borrow.Author.Tests.{eqb-true}
 use native.Mathlib.Omega.{arith}
 use Rattle.definition.specs.declared.Limits.{Limits}
 use Rattle.definition.specs.Text.{allAllowed}
-use Rattle.definition.specs.Elements.{Role, name, names, masked, plain}
-use Rattle.definition.specs.Rows.{
-  Row,
-  Table,
-  table,
-  state,
-  entry,
-  invoke,
-  schema,
-  Class,
-  free,
-  columnsOf,
-  num,
-  blank,
-  rowOf,
-  Cell,
-  noCell,
-  cellAt,
-  withCell,
-  textFrom,
-  textAt,
-  Numbers,
-  tableOf,
-  Store,
-}
+use Rattle.definition.specs.Elements.{Role, names}
+use Rattle.definition.specs.Rows.{Row, Table, table, blank, Cell, noCell, cellAt, textFrom, textAt, Numbers, Store}
 use Rattle.definition.specs.Rules.{tableLimits, keepsRules}
-use Rattle.definition.specs.Reader.{
-  Reply,
-  eventReply,
-  replyTo,
-  noRow,
-  rowWidth,
-  widened,
-  stateNameOf,
-  withName,
-  placeOf,
-  exists,
-  rowRead,
-  Lent,
-  Position,
-  counts,
-  taken,
-  storeOf,
-  rowsIn,
-  positionOf,
-  over,
-  overAll,
-  lentAfter,
-  allLong,
-  longEnough,
-  allAtMost,
-  inOrder,
-  Call,
-  event,
-  reading,
-  Answer,
-  refused,
-  answerOf,
-  answerTo,
-  call,
-  run,
-  start,
-}
-use Rattle.definition.specs.Renaming.{
-  Renaming,
-  Moved,
-  textRole,
-  roleAt,
-  zeroTables,
-  zeros,
-  CallRel,
-  CallsRel,
-  TextsRel,
-  kindAsked,
-  AnswerRel,
-  AnswersRel,
-  Demand3,
-}
+use Rattle.definition.specs.Reader.{Reply, eventReply, noRow, rowWidth, exists, rowRead, Lent, Position, counts, taken, storeOf, rowsIn, positionOf, over, overAll, lentAfter, allLong, longEnough, allAtMost, inOrder, Call, event, reading, Answer, refused, answerOf, answerTo, call, run, start}
+use Rattle.definition.specs.Renaming.{Renaming, Moved, zeroTables, zeros, CallRel, CallsRel, TextsRel, kindAsked, AnswerRel, AnswersRel, Demand3}
 use Rattle.definition.proofs.Base.{All, All-append, elim-cond}
 use Rattle.definition.proofs.Words.{Total}
-use Rattle.definition.proofs.Names.{Fits, textFrom-append, Held, held-none, held-grow, moved-nil}
+use Rattle.definition.proofs.Names.{Fits, textFrom-append, Held, held-none, held-grow}
 use Rattle.definition.proofs.On7.{on7, total, moved-back}
-use Rattle.definition.proofs.Tables.{sort, text-at, len-at}
-use Rattle.definition.proofs.Edits.{RowOk, TablesOk, blank-ok, with-cell, zero-cell}
-use Rattle.definition.proofs.Looks.{tables-grow}
+use Rattle.definition.proofs.Edits.{RowOk, TablesOk, blank-ok}
 use Rattle.definition.proofs.Shown.{zeros-held, shown-held}
 use Rattle.definition.proofs.Parse.{read-ρ}
 use Rattle.definition.proofs.Allowed.{allowed-text}

@@ -1,99 +1,27 @@
 -- A row whose sources fit their columns is related in both stores, whatever shapes, places and numbers a handler asks for.
-use Prim.Native.Nat.{ℕ, zero, suc, _+_, _≤_, _<_}
-use mathlib.Core.Path.{_≡_, refl, sym, ap, ap₂, _∙_, subst, subst₂}
-use mathlib.Core.Bool.{Bool, true, false, _&&_}
+use Prim.Native.Nat.{ℕ, zero, suc, _≤_, _<_}
+use mathlib.Core.Path.{_≡_, refl, sym, ap, _∙_, subst, subst₂}
+use mathlib.Core.Bool.{Bool, true, false}
 use mathlib.Core.Option.{Option, none, some}
-use mathlib.Core.List.{List, [], _∷_, _++_, map}
-use lib.ListN.{length, getD, set, drop, replicate, length-set, length-append, length-replicate}
-use lib.Dec.{T, eqb}
+use mathlib.Core.List.{List, [], _∷_}
+use lib.ListN.{length, getD, set, replicate, length-set, length-replicate}
+use lib.Dec.{eqb}
 use borrow.Author.Tests.{eqb-true, eq-eqb}
 use native.Mathlib.Omega.{arith}
 use Rattle.definition.specs.Text.{bytesAt}
-use Rattle.definition.specs.Elements.{key, Role, name, names, masked, plain, roleOf}
-use Rattle.definition.specs.Rows.{
-  Row,
-  Table,
-  table,
-  Class,
-  free,
-  own,
-  docId,
-  above,
-  mark,
-  len,
-  code,
-  row,
-  existing,
-  text,
-  by,
-  columnsOf,
-  num,
-  blank,
-  Cell,
-  noCell,
-  cellAt,
-  withCell,
-  textFrom,
-  textAt,
-}
-use Rattle.definition.specs.Shapes.{
-  Source,
-  absent,
-  trimmed,
-  content,
-  quoted,
-  value,
-  filled,
-  given,
-  word,
-  Filling,
-  Shape,
-  shapeAt,
-  shapesIn,
-  Shaped,
-  shapesByElement,
-  noShape,
-  sourceFits,
-  fillingFits,
-  textsFit,
-  shapesFit,
-  allFit,
-  sameRole,
-}
+use Rattle.definition.specs.Elements.{key, Role, plain, roleOf}
+use Rattle.definition.specs.Rows.{Row, Table, Class, free, own, docId, above, mark, len, code, row, existing, text, by, columnsOf, num, blank, Cell, noCell, cellAt, withCell, textFrom, textAt}
+use Rattle.definition.specs.Shapes.{Source, absent, trimmed, content, quoted, value, filled, given, word, Filling, Shape, shapeAt, shapesIn, Shaped, shapesByElement, noShape, sourceFits, fillingFits, textsFit, shapesFit, allFit, sameRole}
 use Rattle.definition.specs.Look.{Field, Look}
-use Rattle.definition.specs.Change.{
-  Put,
-  Which,
-  numbers,
-  shape,
-  Edit,
-  add,
-  alter,
-  fieldIn,
-  fieldCell,
-  ifFilled,
-  ifGiven,
-  trimmedCell,
-  fieldWords,
-  cellOf,
-  filledBy,
-  isNumber,
-  putOne,
-  putAll,
-  shapeOf,
-  alterRow,
-  onTable,
-  edited,
-  editedBy,
-}
-use Rattle.definition.specs.Renaming.{Moved, textRole, roleAt}
-use Rattle.definition.proofs.Base.{and-left, and-right, true-is-false, none-is-some, some-inj, role-eq, All, All-append, All-getD, getD-set}
+use Rattle.definition.specs.Change.{Put, Which, numbers, shape, Edit, add, alter, fieldIn, fieldCell, ifFilled, ifGiven, trimmedCell, fieldWords, cellOf, filledBy, isNumber, putOne, putAll, shapeOf, alterRow, onTable, edited, editedBy}
+use Rattle.definition.specs.Renaming.{textRole, roleAt}
+use Rattle.definition.proofs.Base.{and-left, and-right, true-is-false, some-inj, role-eq, All, All-append, All-getD, getD-set}
 use Rattle.definition.proofs.SchemaFits.{sources-fit}
 use Rattle.definition.proofs.Words.{Total}
-use Rattle.definition.proofs.Names.{Fits, Held, held-none, held-grow, moved-nil}
-use Rattle.definition.proofs.Items.{text-plain, quoted-plain}
+use Rattle.definition.proofs.Names.{Held, held-none}
+use Rattle.definition.proofs.Items.{quoted-plain}
 use Rattle.definition.proofs.Fields.{FieldHeld}
-use Rattle.definition.proofs.Tables.{sort, sort-number, text-at, len-at, apart, num-other, cell-other, cell-here}
+use Rattle.definition.proofs.Tables.{sort, sort-number, text-at, len-at, apart, cell-other, cell-here}
 
 -- ---- what the computed test says of each element, shape and filling
 

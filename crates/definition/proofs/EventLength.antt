@@ -1,50 +1,15 @@
 -- An event in form and within document 01's limits has at most 43,352 bytes as it is written, so the 49,152 of document 01 never decides.
-use Prim.Native.Nat.{ℕ, zero, suc, _+_, _*_, _≤_}
+use Prim.Native.Nat.{ℕ, suc, _+_, _*_, _≤_}
 use mathlib.Core.Path.{_≡_, refl, sym, ap, _∙_, subst}
 use mathlib.Core.Bool.{Bool, true, false, _&&_}
 use mathlib.Core.Option.{Option, none, some}
 use mathlib.Core.List.{List, [], _∷_, _++_, map}
 use lib.ListN.{length, length-append}
-use lib.Dec.{T, eqb, leb, leb→le}
+use lib.Dec.{eqb, leb, leb→le}
 use native.Mathlib.Omega.{arith}
 use Rattle.definition.specs.Limits.{limits01}
 use Rattle.definition.specs.Text.{str, same, allAllowed, placeIn}
-use Rattle.definition.specs.Event.{
-  Line,
-  event,
-  name,
-  key,
-  value,
-  text,
-  junk,
-  after,
-  headed,
-  lineOf,
-  linesFrom,
-  tailFrom,
-  isNil,
-  linesOf,
-  unescapeFrom,
-  prepend,
-  ifAllowed,
-  legible,
-  Attribute,
-  Event,
-  Body,
-  withPair,
-  lastText,
-  bodyOf,
-  eventWith,
-  namedEvent,
-  eventOfLines,
-  kindNames,
-  readEvent,
-  between,
-  attributesFit,
-  textFits,
-  kindFits,
-  inForm,
-}
+use Rattle.definition.specs.Event.{Line, event, name, key, value, text, junk, after, headed, lineOf, linesFrom, tailFrom, isNil, linesOf, unescapeFrom, prepend, ifAllowed, legible, Attribute, Event, Body, withPair, lastText, bodyOf, eventWith, namedEvent, eventOfLines, kindNames, readEvent, between, attributesFit, textFits, kindFits, inForm}
 use Rattle.definition.proofs.Base.{and-left, and-right, T-of, none-is-some, some-inj, true-is-false, same-eq}
 
 -- ---- an escaped text is at most twice as long

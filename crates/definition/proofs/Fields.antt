@@ -1,32 +1,17 @@
 -- Stage 1 over the items of an event and of its partner: the same fields, in places that hold the texts in both; the names renamed, at the same places.
-use Prim.Native.Nat.{ℕ, zero, suc, _+_, _≤_}
+use Prim.Native.Nat.{ℕ, suc, _+_, _≤_}
 use mathlib.Core.Path.{_≡_, refl, sym, ap, ap₂, _∙_, subst, subst₂}
-use mathlib.Core.List.{List, [], _∷_, _++_, map, map-append, append-assoc, append-nil}
+use mathlib.Core.List.{List, [], _∷_, _++_, map, map-append, append-assoc}
 use lib.ListN.{length, drop, length-append}
 use native.Mathlib.Omega.{arith}
-use Rattle.definition.specs.Text.{Span, bytesAt, isSeparator, noSeparator, Piece, pieces, stateWordsAt}
+use Rattle.definition.specs.Text.{Span, bytesAt, isSeparator, noSeparator, Piece, stateWordsAt}
 use Rattle.definition.specs.Elements.{Role, name, names, masked, plain, roleOf}
-use Rattle.definition.specs.Rows.{Cell, textFrom, textAt}
-use Rattle.definition.specs.Look.{
-  Item,
-  payload,
-  Field,
-  shift,
-  wordSpans,
-  wordsByRole,
-  codeByRole,
-  fieldBy,
-  fieldsFrom,
-  spanOf,
-  ownName,
-  wordNames,
-  namesFrom,
-  namesBrought,
-}
-use Rattle.definition.specs.Renaming.{Moved, renameWords}
+use Rattle.definition.specs.Rows.{textFrom, textAt}
+use Rattle.definition.specs.Look.{Item, payload, Field, shift, wordSpans, wordsByRole, codeByRole, fieldBy, fieldsFrom, spanOf, ownName, wordNames, namesFrom, namesBrought}
+use Rattle.definition.specs.Renaming.{Moved}
 use Rattle.definition.proofs.Base.{All, All-append}
 use Rattle.definition.proofs.Words.{Total, Located, renamePiece, pieces-ρ, located-at, drop-past, pieces-located}
-use Rattle.definition.proofs.Names.{Fits, Held, Both}
+use Rattle.definition.proofs.Names.{Held, Both}
 use Rattle.definition.proofs.Parts.{Inside, parts-inside, part-bytes}
 use Rattle.definition.proofs.Items.{past, moved-length, ItemRel, ItemsRel}
 

@@ -1,44 +1,18 @@
 -- An event and its partner: stage 1 reads the same numbers of their values, and what it reads lies in both texts.
-use Prim.Native.Nat.{ℕ, zero, suc, _+_, _≤_}
-use mathlib.Core.Path.{_≡_, refl, sym, ap, ap₂, _∙_, subst, subst₂}
+use Prim.Native.Nat.{ℕ, suc, _+_, _≤_}
+use mathlib.Core.Path.{_≡_, refl, sym, ap, _∙_, subst}
 use mathlib.Core.Bool.{Bool, true, false, _&&_, not}
 use mathlib.Core.Option.{Option, none, some}
-use mathlib.Core.List.{List, [], _∷_, _++_, map, map-append, append-assoc, append-nil}
+use mathlib.Core.List.{List, [], _∷_, _++_}
 use lib.ListN.{length, drop, length-append, length-drop}
 use lib.Dec.{T, eqb}
 use native.Mathlib.Omega.{arith}
-use Rattle.definition.specs.Text.{allAllowed, Span, bytesAt, isSeparator, noSeparator, Piece, pieces, stateWordsAt, quoted, str, decimal, startsGenerated, generatedName}
-use Rattle.definition.specs.Elements.{tag, key, Role, name, names, masked, plain, roleOf, isMasked, isName, isNames, namesState, among, tagOf, keyOf}
+use Rattle.definition.specs.Text.{allAllowed, quoted, str, startsGenerated, generatedName}
+use Rattle.definition.specs.Elements.{tag, key, Role, name, names, masked, plain, roleOf, isMasked, isName, isNames, namesState, tagOf, keyOf}
 use Rattle.definition.specs.Event.{Attribute, Event}
-use Rattle.definition.specs.Rows.{Cell, textFrom, textAt}
-use Rattle.definition.specs.Look.{
-  Item,
-  valueItems,
-  textItems,
-  hasItem,
-  isGenerated,
-  generatedItems,
-  payload,
-  Field,
-  shift,
-  wordSpans,
-  wordsByRole,
-  codeByRole,
-  fieldBy,
-  fieldsFrom,
-  spanOf,
-  ownName,
-  wordNames,
-  namesFrom,
-  namesBrought,
-  itemsOf,
-  valuesLength,
-}
-use Rattle.definition.specs.Renaming.{Moved, renameWords}
-use Rattle.definition.proofs.Base.{All, All-append, is-true, T-of}
-use Rattle.definition.proofs.Words.{Total, Located, renamePiece, pieces-ρ, length-rename, located-at, drop-past, pieces-located}
-use Rattle.definition.proofs.Names.{Fits, Held, Both}
-use Rattle.definition.proofs.Parts.{Inside, parts-inside, part-bytes}
+use Rattle.definition.specs.Look.{Item, valueItems, textItems, hasItem, isGenerated, generatedItems, itemsOf}
+use Rattle.definition.specs.Renaming.{Moved}
+use Rattle.definition.proofs.Words.{Total, length-rename}
 
 -- What stands at o, after a value.
 pub past : (t : List ℕ) (o : ℕ) (v x : List ℕ) → o ≤ length t → drop o t ≡ v ++ x → o + length v ≤ length t

@@ -1,8 +1,8 @@
 -- Stage 1 gives the same numbers for an event and its partner, in two stores that are related.
-use Prim.Native.Nat.{ℕ, zero, suc, _+_, _≤_, _<_}
-use mathlib.Core.Path.{_≡_, refl, sym, ap, ap₂, _∙_, subst, subst₂}
+use Prim.Native.Nat.{ℕ, suc, _+_, _≤_}
+use mathlib.Core.Path.{_≡_, refl, sym, ap, ap₂, _∙_, subst}
 use mathlib.Core.Bool.{Bool, true, false, _&&_, cond}
-use mathlib.Core.Option.{Option, none, some}
+use mathlib.Core.Option.{some}
 use mathlib.Core.List.{List, [], _∷_, _++_, map, append-nil}
 use lib.ListN.{length, getD, drop, length-append}
 use lib.Dec.{eqb}
@@ -10,57 +10,15 @@ use lib.Seq.{drop-append-seam}
 use borrow.Author.Tests.{eqb-true}
 use native.Mathlib.Omega.{arith}
 use Rattle.definition.specs.Text.{same}
-use Rattle.definition.specs.Elements.{tag, key, Role, name, names, masked, plain, roleOf, isMasked, isName, isNames, namesState, among, tagOf, keyOf}
+use Rattle.definition.specs.Elements.{tag, key, Role, name, names, plain, roleOf, isMasked, isName, isNames, namesState, among, tagOf, keyOf}
 use Rattle.definition.specs.Event.{Attribute, Event}
-use Rattle.definition.specs.Rows.{
-  Row,
-  Table,
-  table,
-  state,
-  item,
-  schema,
-  Class,
-  columnsOf,
-  num,
-  Cell,
-  cellAt,
-  textAt,
-  Numbers,
-  tableOf,
-  Store,
-  currentState,
-}
-use Rattle.definition.specs.Look.{
-  Item,
-  valueItems,
-  generatedItems,
-  isGenerated,
-  payload,
-  Field,
-  fieldsFrom,
-  nameCells,
-  Resolved,
-  resolve,
-  namesBrought,
-  idIn,
-  findItem,
-  itemsOf,
-  valuesLength,
-  textCharge,
-  eventCharge,
-  textAfter,
-  Look,
-  look,
-  oneIf,
-  isInnermost,
-  keptName,
-  nameRow,
-}
+use Rattle.definition.specs.Rows.{Row, Table, table, state, item, schema, columnsOf, num, Cell, cellAt, textAt, Numbers, tableOf, currentState}
+use Rattle.definition.specs.Look.{Item, valueItems, isGenerated, payload, fieldsFrom, nameCells, resolve, namesBrought, idIn, findItem, itemsOf, valuesLength, eventCharge, look, oneIf, isInnermost, keptName, nameRow}
 use Rattle.definition.specs.Renaming.{Moved, textRole, roleAt}
 use Rattle.definition.proofs.Base.{All, elim-cond}
 use Rattle.definition.proofs.Words.{Total, renamePiece}
-use Rattle.definition.proofs.Names.{Held, held-grow, Both, resolve-ρ}
-use Rattle.definition.proofs.Items.{moved-length, AttributeRel, AttributesRel, EventRel, ItemRel, ItemsRel, items-ρ, generated-ρ}
+use Rattle.definition.proofs.Names.{Held, held-grow, resolve-ρ}
+use Rattle.definition.proofs.Items.{moved-length, AttributesRel, EventRel, ItemsRel, items-ρ, generated-ρ}
 use Rattle.definition.proofs.Fields.{payload-length, fields-ρ, brought-ρ, brought-both, FieldHeld, fields-held}
 use Rattle.definition.proofs.Edits.{RowOk, TablesOk}
 

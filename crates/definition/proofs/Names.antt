@@ -1,16 +1,16 @@
 -- Names are found, and entered, alike in two texts whose names correspond.
 use Prim.Native.Nat.{ℕ, zero, suc, _+_, _≤_}
-use mathlib.Core.Path.{_≡_, refl, sym, ap, ap₂, _∙_, subst, subst₂}
-use mathlib.Core.Bool.{Bool, true, false, cond}
+use mathlib.Core.Path.{_≡_, refl, sym, ap, _∙_, subst, subst₂}
+use mathlib.Core.Bool.{true, false, cond}
 use mathlib.Core.List.{List, [], _∷_, _++_, map}
-use lib.ListN.{length, take, drop, length-append, length-drop}
+use lib.ListN.{length, drop, length-append, length-drop}
 use lib.Seq.{take-append-le, drop-append-le}
-use lib.Dec.{T, eqb, ltb}
+use lib.Dec.{ltb}
 use native.Mathlib.Omega.{arith}
 use Rattle.definition.specs.Text.{same, Span, bytesAt, Piece}
 use Rattle.definition.specs.Elements.{Role, name, names, masked, plain}
 use Rattle.definition.specs.Rows.{Cell, noCell, textFrom, textAt}
-use Rattle.definition.specs.Look.{spanOf, findName, pieceCell, enter, Resolved, resolve}
+use Rattle.definition.specs.Look.{spanOf, findName, pieceCell, enter, resolve}
 use Rattle.definition.specs.Renaming.{Moved, renameWords}
 use Rattle.definition.proofs.Base.{All, All-append, same-refl, same-eq, bool-ext, elim-cond}
 use Rattle.definition.proofs.Words.{Total, ρ-nil, Located, renamePiece}

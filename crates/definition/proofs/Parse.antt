@@ -1,38 +1,17 @@
 -- Parsing keeps the relation, in form or not.
-use Prim.Native.Nat.{ℕ, zero, suc}
-use mathlib.Core.Path.{_≡_, refl, sym, ap, ap₂, _∙_, subst, subst₂}
+use Prim.Native.Nat.{ℕ}
+use mathlib.Core.Path.{_≡_, refl, sym, _∙_, subst, subst₂}
 use mathlib.Core.Bool.{Bool, true, false}
 use mathlib.Core.Option.{Option, none, some}
 use mathlib.Core.List.{List, [], _∷_, _++_, map, append-nil}
 use Rattle.definition.specs.Text.{str, allAllowed, placeIn}
-use Rattle.definition.specs.Elements.{Role, roleOf, tagOf, keyOf}
+use Rattle.definition.specs.Elements.{roleOf, tagOf, keyOf}
 use Rattle.definition.specs.Event as E
-use Rattle.definition.specs.Event.{
-  Line,
-  lineOf,
-  linesFrom,
-  tailFrom,
-  isNil,
-  linesOf,
-  unescapeFrom,
-  ifAllowed,
-  legible,
-  Attribute,
-  Event,
-  Body,
-  withPair,
-  lastText,
-  bodyOf,
-  eventWith,
-  namedEvent,
-  eventOfLines,
-  kindNames,
-  readEvent,
-}
+use Rattle.definition.specs.Event.{Line, lineOf, linesFrom, tailFrom, isNil, linesOf, unescapeFrom, ifAllowed, legible, Event, Body, withPair, lastText, bodyOf, eventWith, namedEvent, eventOfLines, kindNames, readEvent}
 use Rattle.definition.specs.Renaming.{Renaming, Moved, ValueRel, LinesRel, lastLine, allLines, tagWritten, keyWritten, elementIn, keyBefore, isFree}
 use Rattle.definition.proofs.Base.{true-is-false, none-is-some, some-inj}
 use Rattle.definition.proofs.On7.{on7, total, moved-7}
-use Rattle.definition.proofs.Items.{TextAllowed, AttributeRel, AttributesRel, EventRel}
+use Rattle.definition.proofs.Items.{TextAllowed, AttributesRel, EventRel}
 
 -- Both are out of form, or both in form and related.
 pub data OptRel {A : Type 0} (P : A → A → Type 0) : Option A → Option A → Type 0 where

@@ -1,32 +1,13 @@
 -- Demand 3 put to use: a literal list of calls and its partner, in which two state names change places and masked texts are replaced.
-use Prim.Native.Nat.{ℕ, zero, suc}
+use Prim.Native.Nat.{ℕ}
 use mathlib.Core.Path.{_≡_, refl}
-use mathlib.Core.Option.{Option, none, some}
-use mathlib.Core.List.{List, [], _∷_, _++_, map}
-use lib.ListN.{length}
-use lib.Dec.{T}
+use mathlib.Core.List.{List, [], _∷_, _++_}
 use Rattle.definition.specs.declared.Limits.{Limits}
 use Rattle.definition.specs.Text.{str, allAllowed, isAllowed, isWord, noSeparator, isSeparator, startsGenerated}
 use Rattle.definition.specs.Elements.{roleOf, isMasked, isName, isNames, namesState, among, tagOf, keyOf}
 use Rattle.definition.specs.Event.{lineOf, linesFrom, tailFrom, isNil, legible}
 use Rattle.definition.specs.Reader.{Call, event, reading, Answer, run, start}
-use Rattle.definition.specs.Renaming.{
-  Renaming,
-  renameWords,
-  ValueRel,
-  LinesRel,
-  CallRel,
-  CallsRel,
-  AnswersRel,
-  lastLine,
-  allLines,
-  tagWritten,
-  keyWritten,
-  elementIn,
-  keyBefore,
-  isFree,
-  zeros,
-}
+use Rattle.definition.specs.Renaming.{Renaming, renameWords, ValueRel, LinesRel, CallRel, CallsRel, AnswersRel, lastLine, allLines, tagWritten, keyWritten, elementIn, keyBefore, isFree, zeros}
 use Rattle.definition.proofs.Swap.{swap, swap-renaming}
 use Rattle.definition.proofs.Demand3.{demand3}
 

@@ -1,5 +1,5 @@
 -- The words of a plain value and its trimmed part lie inside it.
-use Prim.Native.Nat.{ℕ, zero, suc, _+_, _≤_}
+use Prim.Native.Nat.{ℕ, suc, _+_, _≤_}
 use mathlib.Core.Path.{_≡_, refl, sym, ap, _∙_}
 use mathlib.Core.Bool.{Bool, true, false, _&&_, cond}
 use mathlib.Core.List.{List, [], _∷_, _++_, map, reverse, append-nil}
@@ -7,23 +7,7 @@ use lib.ListN.{length, drop, length-drop, length-reverse}
 use lib.Dec.{eqb}
 use lib.Seq.{drop-drop}
 use native.Mathlib.Omega.{arith}
-use Rattle.definition.specs.Text.{
-  Span,
-  bytesAt,
-  isSpace,
-  isSeparator,
-  Piece,
-  pieces,
-  wordsBy,
-  stripLast,
-  stripped,
-  strippedPiece,
-  eventWords,
-  stateWords,
-  leading,
-  bodyLength,
-  trim,
-}
+use Rattle.definition.specs.Text.{Span, bytesAt, isSpace, Piece, wordsBy, stripLast, stripped, strippedPiece, eventWords, stateWords, leading, bodyLength, trim}
 use Rattle.definition.specs.Elements.{key}
 use Rattle.definition.specs.Look.{spanOf, isEvents, isNamelist, wordSpans}
 use Rattle.definition.proofs.Base.{All, elim-cond}

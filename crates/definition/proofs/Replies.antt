@@ -1,23 +1,22 @@
 -- An event and its partner get the same number, and the stores after them are related.
-use Prim.Native.Nat.{ℕ, zero, suc, _+_, _≤_}
-use mathlib.Core.Path.{_≡_, refl, sym, ap, ap₂, _∙_, subst, subst₂}
-use mathlib.Core.Bool.{Bool, true, false, _&&_, not}
-use mathlib.Core.Option.{Option, none, some}
+use Prim.Native.Nat.{ℕ, zero, suc}
+use mathlib.Core.Path.{_≡_, refl, sym, ap, ap₂, _∙_, subst}
+use mathlib.Core.Bool.{Bool, true, false, _&&_}
+use mathlib.Core.Option.{Option, some}
 use mathlib.Core.List.{List, [], _∷_, _++_, append-nil}
-use lib.ListN.{length, getD, length-append}
+use lib.ListN.{length, length-append}
 use lib.Dec.{leb}
 use native.Mathlib.Omega.{arith}
 use Rattle.definition.specs.declared.Limits.{Limits}
 use Rattle.definition.specs.Text.{same, allAllowed}
 use Rattle.definition.specs.Elements.{roleOf, tagOf, keyOf}
-use Rattle.definition.specs.Event.{Attribute, Event, hasText, noAttributes, kindFits, between, textFits, attributesFit, inForm, hasKey, keysDiffer}
-use Rattle.definition.specs.Rows.{Table, Numbers, Store}
-use Rattle.definition.specs.Look.{Look, look, textAfter, payload, itemsOf, fieldsFrom, resolve, nameCells, namesBrought}
+use Rattle.definition.specs.Event.{Attribute, Event, noAttributes, kindFits, between, textFits, attributesFit, inForm, hasKey, keysDiffer}
+use Rattle.definition.specs.Rows.{Numbers, Store}
+use Rattle.definition.specs.Look.{Look, look, textAfter, payload, itemsOf}
 use Rattle.definition.specs.Reader.{Verdict, accept, reject, decided, Reply, settled, replyTo}
-use Rattle.definition.proofs.Base.{All}
 use Rattle.definition.proofs.Words.{Total}
 use Rattle.definition.proofs.On7.{allowed-append}
-use Rattle.definition.proofs.Items.{moved-length, AttributeRel, AttributesRel, EventRel}
+use Rattle.definition.proofs.Items.{moved-length, AttributesRel, EventRel}
 use Rattle.definition.proofs.Edits.{TablesOk}
 use Rattle.definition.proofs.Steps.{VerdictOk, decided-ok}
 use Rattle.definition.proofs.Looks.{tables-grow, size₂, ok₂, held, known-held, look-same}

@@ -1,54 +1,15 @@
 -- Question 2 gets the same answer in two stores that are related: of texts it looks at lengths, and at names only for which are equal.
-use Prim.Native.Nat.{ℕ, zero, suc, _+_}
-use mathlib.Core.Path.{_≡_, refl, sym, ap, ap₂, _∙_, subst}
+use Prim.Native.Nat.{ℕ, suc}
+use mathlib.Core.Path.{_≡_, refl, sym, ap, ap₂, _∙_}
 use mathlib.Core.Bool.{Bool, true, false, _&&_, cond}
 use mathlib.Core.List.{List, [], _∷_}
-use lib.ListN.{length, getD}
+use lib.ListN.{length}
 use lib.Dec.{eqb, leb}
 use Rattle.definition.specs.declared.Limits.{Limits}
 use Rattle.definition.specs.Elements.{name}
-use Rattle.definition.specs.Rows.{
-  Row,
-  Table,
-  table,
-  schema,
-  Class,
-  free,
-  own,
-  docId,
-  above,
-  mark,
-  len,
-  code,
-  row,
-  existing,
-  text,
-  by,
-  Cell,
-  textAt,
-  Numbers,
-  tableOf,
-  Store,
-}
+use Rattle.definition.specs.Rows.{Row, Table, table, schema, Class, free, own, docId, above, mark, len, code, row, existing, text, by, Cell, textAt, Numbers, tableOf, Store}
 use Rattle.definition.specs.Look.{findName, nameCells}
-use Rattle.definition.specs.Rules.{
-  isInside,
-  chosen,
-  keeps,
-  columnsKeep,
-  rowsKeep,
-  tablesKeep,
-  namesLead,
-  namesDistinct,
-  numbersFit,
-  openNamesFit,
-  openRegionsFit,
-  isRowOrZero,
-  allWithin,
-  tableLimits,
-  countersWithin,
-  keepsRules,
-}
+use Rattle.definition.specs.Rules.{chosen, keeps, columnsKeep, rowsKeep, tablesKeep, namesLead, namesDistinct, numbersFit, openNamesFit, openRegionsFit, isRowOrZero, allWithin, tableLimits, countersWithin, keepsRules}
 use Rattle.definition.proofs.Base.{All, elim-cond}
 use Rattle.definition.proofs.Words.{Total}
 use Rattle.definition.proofs.Names.{Held, find-ρ}

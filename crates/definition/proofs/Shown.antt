@@ -1,41 +1,22 @@
 -- A row as it is read holds related texts too, a send's and an invoke's state name among them.
-use Prim.Native.Nat.{ℕ, zero, suc, _+_, _≤_, _<_}
-use mathlib.Core.Path.{_≡_, refl, sym, ap, ap₂, _∙_, subst}
-use mathlib.Core.Bool.{Bool, true, false, _&&_, _||_, not}
-use mathlib.Core.Option.{Option, none, some}
+use Prim.Native.Nat.{ℕ, zero, suc, _+_, _<_}
+use mathlib.Core.Path.{_≡_, refl, sym, ap, _∙_, subst}
+use mathlib.Core.Bool.{Bool, true, false, _&&_}
+use mathlib.Core.Option.{some}
 use mathlib.Core.List.{List, [], _∷_, _++_}
-use lib.ListN.{length, getD, set, take, replicate, length-append}
-use lib.Dec.{T, eqb, ltb, ltb→lt}
+use lib.ListN.{length, getD, take, replicate}
+use lib.Dec.{eqb, ltb, ltb→lt}
 use borrow.Author.Tests.{eqb-true, eq-eqb}
 use native.Mathlib.Omega.{arith}
-use Rattle.definition.specs.Elements.{Role, name, names, masked, plain}
-use Rattle.definition.specs.Rows.{
-  Row,
-  Table,
-  table,
-  state,
-  entry,
-  invoke,
-  schema,
-  Class,
-  free,
-  columnsOf,
-  num,
-  rowOf,
-  Cell,
-  noCell,
-  cellAt,
-  withCell,
-  Numbers,
-  tableOf,
-}
-use Rattle.definition.specs.Reader.{noRow, rowWidth, widened, stateNameOf, withName, placeOf, rowRead}
+use Rattle.definition.specs.Elements.{Role, name}
+use Rattle.definition.specs.Rows.{Row, Table, table, state, entry, invoke, schema, Class, free, columnsOf, num, rowOf, noCell, cellAt, withCell, Numbers, tableOf}
+use Rattle.definition.specs.Reader.{rowWidth, widened, stateNameOf, withName, placeOf, rowRead}
 use Rattle.definition.specs.Renaming.{textRole, roleAt}
-use Rattle.definition.proofs.Base.{and-left, and-right, All, All-getD, T-of, true-is-false}
+use Rattle.definition.proofs.Base.{and-left, and-right, All, All-getD, T-of}
 use Rattle.definition.proofs.Words.{Total}
 use Rattle.definition.proofs.Names.{Held, held-none}
 use Rattle.definition.proofs.Tables.{sort, text-at}
-use Rattle.definition.proofs.Edits.{RowOk, TablesOk, with-cell, zero-num, zero-cell}
+use Rattle.definition.proofs.Edits.{RowOk, TablesOk, with-cell, zero-cell}
 
 -- ---- texts stand before the width of a row that is read
 

@@ -1,49 +1,18 @@
 -- An accepted event leaves every text column of every row related, in whatever way its handler goes.
-use Prim.Native.Nat.{ℕ, zero, suc, _+_, _≤_, _<_}
-use mathlib.Core.Path.{_≡_, refl, sym, ap, _∙_, subst}
+use Prim.Native.Nat.{ℕ, zero, suc, _≤_}
+use mathlib.Core.Path.{_≡_, refl}
 use mathlib.Core.Bool.{Bool, true, false, _&&_}
-use mathlib.Core.Option.{Option, none, some}
+use mathlib.Core.Option.{some}
 use mathlib.Core.List.{List, [], _∷_, _++_, map, reverse}
-use lib.ListN.{length, getD, set, drop, replicate}
+use lib.ListN.{length, getD, drop}
 use lib.Dec.{eqb}
 use borrow.Author.Tests.{eqb-true}
 use native.Mathlib.Omega.{arith}
 use Rattle.definition.specs.declared.Limits.{Limits}
-use Rattle.definition.specs.Elements.{Role, name, names, masked, plain}
-use Rattle.definition.specs.Rows.{
-  Row,
-  Table,
-  table,
-  state,
-  schema,
-  Class,
-  free,
-  columnsOf,
-  blank,
-  Cell,
-  cellAt,
-  Numbers,
-  openedColumns,
-  openRegionColumns,
-  stateColumns,
-}
-use Rattle.definition.specs.Look.{Field, Look}
-use Rattle.definition.specs.Change.{
-  Change,
-  Outcome,
-  done,
-  refuse,
-  onTable,
-  stateRow,
-  entered,
-  made,
-  withTables,
-  openedRow,
-  pushed,
-  withoutLast,
-  popped,
-  editedBy,
-}
+use Rattle.definition.specs.Elements.{name}
+use Rattle.definition.specs.Rows.{Row, Table, table, state, schema, Class, free, columnsOf, blank, Cell, Numbers}
+use Rattle.definition.specs.Look.{Look}
+use Rattle.definition.specs.Change.{Change, Outcome, done, refuse, onTable, stateRow, entered, made, withTables, openedRow, pushed, withoutLast, popped, editedBy}
 use Rattle.definition.specs.Rules.{withinLimits}
 use Rattle.definition.specs.Reader.{Verdict, accept, reject, startOf, endOf, onDone, started, finished, handled, limited, questions, firstNo, decided}
 use Rattle.definition.specs.Renaming.{textRole, roleAt}

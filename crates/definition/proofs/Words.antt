@@ -1,18 +1,18 @@
 -- The words of a renamed text are the renamed words, at the same places.
-use Prim.Native.Nat.{ℕ, zero, suc, _+_, _≤_}
-use mathlib.Core.Path.{_≡_, refl, sym, ap, ap₂, _∙_, subst}
+use Prim.Native.Nat.{ℕ, suc, _+_, _≤_}
+use mathlib.Core.Path.{_≡_, refl, ap, _∙_}
 use mathlib.Core.Bool.{Bool, true, false}
 use mathlib.Core.List.{List, [], _∷_, _++_, map, map-append, append-assoc, append-nil}
-use lib.ListN.{length, take, drop, length-append, length-drop}
-use lib.Dec.{T, eqb}
+use lib.ListN.{length, drop, length-append, length-drop}
+use lib.Dec.{T}
 use lib.Seq.{drop-drop, drop-append-seam, take-append-seam}
 use native.Mathlib.Omega.{arith}
 use native.Mathlib.Nat.{add-suc}
 use native.Mathlib.Numerals.{add-one}
-use Rattle.definition.specs.Text.{Span, bytesAt, isSeparator, noSeparator, isWord, startsGenerated, Piece, emit, pieces}
+use Rattle.definition.specs.Text.{bytesAt, isSeparator, noSeparator, isWord, startsGenerated, Piece, emit, pieces}
 use Rattle.definition.specs.Look.{spanOf}
 use Rattle.definition.specs.Renaming.{renameWords}
-use Rattle.definition.proofs.Base.{All, All-append, is-true}
+use Rattle.definition.proofs.Base.{All, All-append}
 
 -- A renaming of all strings; On7 makes one of a renaming of strings of bytes 0 to 127.
 pub record Total (ρ : List ℕ → List ℕ) : Type 0 where

@@ -1,64 +1,14 @@
 -- Document 01, module 6: Actions. The handlers of transitions, regions, their entries, invoke and param and content.
 use Prim.Native.Nat.{ℕ, zero, suc}
-use mathlib.Core.Bool.{Bool, true, false, _||_, not}
-use mathlib.Core.Option.{Option, none, some}
+use mathlib.Core.Bool.{Bool, true, false, _||_}
 use mathlib.Core.List.{List, [], _∷_}
-use lib.ListN.{length, getD}
-use lib.Dec.{eqb, ltb}
+use lib.ListN.{length}
+use lib.Dec.{eqb}
 use Rattle.definition.specs.Elements.{tag, key}
 use Rattle.definition.specs.Event.{kind}
-use Rattle.definition.specs.Rows.{
-  Row,
-  Table,
-  table,
-  list,
-  entryKind,
-  ownerKind,
-  chart,
-  state,
-  transition,
-  entry,
-  invoke,
-  parameter,
-  num,
-  rowOf,
-  Numbers,
-  tableOf,
-  currentState,
-  currentTransition,
-  parentTag,
-}
+use Rattle.definition.specs.Rows.{Row, Table, table, list, entryKind, ownerKind, chart, state, transition, entry, invoke, parameter, num, rowOf, Numbers, tableOf, currentState, currentTransition, parentTag}
 use Rattle.definition.specs.Look.{Look}
-use Rattle.definition.specs.Change.{
-  _≔_,
-  Put,
-  Which,
-  numbers,
-  shape,
-  Change,
-  Outcome,
-  done,
-  refuse,
-  _▷_,
-  nothing,
-  adding,
-  altering,
-  nextId,
-  nextDoc,
-  drawId,
-  drawDoc,
-  inTransition,
-  addMember,
-  addMembers,
-  addWords,
-  freshRegion,
-  nestedRegion,
-  closing,
-  unlessZero,
-  has,
-  codeFor,
-  wordsOf,
-}
+use Rattle.definition.specs.Change.{_≔_, Put, numbers, shape, Change, Outcome, done, refuse, _▷_, nothing, adding, altering, nextId, nextDoc, drawId, drawDoc, inTransition, addMember, addMembers, addWords, freshRegion, nestedRegion, closing, unlessZero, has, codeFor, wordsOf}
 use Rattle.definition.specs.States.{unlessInitial}
 
 -- ---- transitions

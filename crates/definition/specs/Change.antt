@@ -1,10 +1,10 @@
 -- What handlers say and what it does: a change is rows added and numbers set, in order, with what was drawn from the counters. Numbers only.
 use Prim.Native.Nat.{ℕ, zero, suc, _+_}
-use mathlib.Core.Bool.{Bool, true, false, _&&_, not}
+use mathlib.Core.Bool.{Bool, true, false}
 use mathlib.Core.Option.{Option, none, some}
 use mathlib.Core.List.{List, [], _∷_, _++_, map, reverse}
 use lib.ListN.{length, getD, set, drop}
-use lib.Dec.{eqb, ltb}
+use lib.Dec.{eqb}
 use Rattle.definition.specs.Elements.{tag, key}
 use Rattle.definition.specs.Rows.{Row, Table, table, list, state, transition, region, member, opened, openRegion, num, blank, columnsOf, Class, free, own, docId, above, mark, len, code, row, existing, text, by, Cell, noCell, cellAt, withCell, Numbers, tableOf, currentState, currentTransition}
 use Rattle.definition.specs.Shapes.{Source, absent, trimmed, content, quoted, value, filled, given, word, Filling, Shape, shapeAt}

@@ -1,10 +1,10 @@
 -- Elements and keys by number, and what part each value plays. Document 01, modules 1 and 2, and questions 10 to 12.
-use Prim.Native.Nat.{ℕ, zero, suc}
-use mathlib.Core.Bool.{Bool, true, false, _||_, _&&_, not}
-use mathlib.Core.List.{List, [], _∷_, _++_, map}
-use lib.ListN.{length, getD}
-use lib.Dec.{eqb, leb, ltb}
-use Rattle.definition.specs.Text.{str, placeIn, lowered}
+use Prim.Native.Nat.{ℕ, suc}
+use mathlib.Core.Bool.{Bool, true, false, _||_, _&&_}
+use mathlib.Core.List.{List, [], _∷_}
+use lib.ListN.{length}
+use lib.Dec.{eqb, ltb}
+use Rattle.definition.specs.Text.{str, placeIn}
 
 unfoldable pub among : ℕ → List ℕ → Bool
 among n [] = false

@@ -3,7 +3,7 @@ use Prim.Native.Nat.{ℕ, zero, suc, _+_, _-_}
 use mathlib.Core.Bool.{Bool, true, false, _&&_, _||_, not}
 use mathlib.Core.Option.{Option, none, some}
 use mathlib.Core.List.{List, [], _∷_, _++_, map}
-use lib.ListN.{length, getD, take, drop, replicate}
+use lib.ListN.{length, take, replicate}
 use lib.Dec.{eqb, ltb}
 use Rattle.definition.specs.Text.{same, placeIn, lowered, isTrue, Span, Piece, eventWords, stateWords, stateWordsAt, wildcard, trim, quoted, generatedName}
 use Rattle.definition.specs.Elements.{tag, key, Role, name, names, masked, plain, roleOf, namesState, keyOf, tagOf, codings, wordsTaken}

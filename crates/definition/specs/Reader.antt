@@ -1,72 +1,19 @@
 -- Document 01, 'The reader's questions': an event, a reading, a call from lent slices, a list of calls, a stream.
-use Prim.Native.Nat.{ℕ, zero, suc, _+_}
+use Prim.Native.Nat.{ℕ, zero, suc}
 use mathlib.Core.Bool.{Bool, true, false, _&&_, _||_, not}
 use mathlib.Core.Option.{Option, none, some}
-use mathlib.Core.List.{List, [], _∷_, _++_, map}
+use mathlib.Core.List.{List, [], _∷_, _++_}
 use lib.ListN.{length, getD, take, drop, replicate}
 use lib.Dec.{eqb, leb, ltb}
 use Rattle.definition.specs.declared.Limits.{Limits}
-use Rattle.definition.specs.Elements.{tag, key, Required, requirements, requiredIn, Apart, exclusions, codings, wordsTaken}
+use Rattle.definition.specs.Elements.{tag, key, leftOutKeys, requirements, requiredIn, Apart, exclusions, codings, wordsTaken}
 use Rattle.definition.specs.Nesting.{parentAllowed}
 use Rattle.definition.specs.Event.{Event, readEvent, inForm, keysDiffer, kind, eventsOf}
-use Rattle.definition.specs.Rows.{
-  Row,
-  Table,
-  table,
-  entryKind,
-  ownerKind,
-  list,
-  state,
-  entry,
-  invoke,
-  parameter,
-  num,
-  rowOf,
-  Cell,
-  noCell,
-  cellAt,
-  withCell,
-  Numbers,
-  tableOf,
-  Store,
-  empty,
-  parentTag,
-  root,
-}
-use Rattle.definition.specs.Look.{Look, look, textAfter, oneIf}
+use Rattle.definition.specs.Rows.{Row, Table, table, entryKind, ownerKind, list, state, entry, invoke, parameter, num, rowOf, Cell, noCell, cellAt, withCell, Numbers, tableOf, Store, parentTag, root}
+use Rattle.definition.specs.Look.{Look, look, textAfter}
 use Rattle.definition.specs.Change.{Change, Outcome, done, refuse, nothing, entered, made, pushed, popped, has, lengthOf, codeFor, wordsOf}
-use Rattle.definition.specs.States.{
-  startScxml,
-  startState,
-  startParallel,
-  startFinal,
-  startHistory,
-  startInitial,
-  startDonedata,
-  startData,
-  endState,
-  endScxml,
-}
-use Rattle.definition.specs.Actions.{
-  startInvoke,
-  startRegion,
-  startElse,
-  startElseIf,
-  startParam,
-  startContent,
-  startTransition,
-  startSend,
-  entryOf,
-  startLog,
-  startAssign,
-  block,
-  startScript,
-  endTransition,
-  endListed,
-  endFinalize,
-  endBlock,
-  placeOfNumber,
-}
+use Rattle.definition.specs.States.{startScxml, startState, startParallel, startFinal, startHistory, startInitial, startDonedata, startData, endState, endScxml}
+use Rattle.definition.specs.Actions.{startInvoke, startRegion, startElse, startElseIf, startParam, startContent, startTransition, startSend, entryOf, startLog, startAssign, block, startScript, endTransition, endListed, endFinalize, endBlock, placeOfNumber}
 use Rattle.definition.specs.Rules.{hasOwnNumber, tableLimits, withinLimits, keepsRules}
 
 -- ---- handlers, by the element's number
@@ -178,12 +125,10 @@ unfoldable pub wordTaken : Look → ℕ → Bool
 unfolding has codeFor wordsTaken codings
 wordTaken l k = let ws : List (List ℕ) = wordsTaken codings (l .tag) k in eqb (length ws) 0 || not (has l k) || ltb (codeFor l k 0) (length ws)
 
+-- "Is it neither include, nor data or script with `src`, nor send with `delay`?"
 unfoldable pub isLeftOut : Look → Bool
-unfolding has
-isLeftOut l =
-    eqb (l .tag) (tag .include)
-    || ((eqb (l .tag) (tag .datum) || eqb (l .tag) (tag .script)) && has l (key .src))
-    || (eqb (l .tag) (tag .send) && has l (key .delay))
+unfolding hasOneOf leftOutKeys
+isLeftOut l = eqb (l .tag) (tag .include) || hasOneOf l (leftOutKeys (l .tag))
 
 pub record Question : Type 0 where
   pub yes : Bool

@@ -1,6 +1,6 @@
 -- DEMAND 3, the statement. "One theorem over whole lists of calls from the empty chart: rename state names, replace cond/expr/array texts by others of equal
 -- length, and every answer, counter, open element and number stays the same, names renamed." Document 01, 'What contracts say'.
-use Prim.Native.Nat.{ℕ, zero, suc, _<_}
+use Prim.Native.Nat.{ℕ, suc, _<_}
 use mathlib.Core.Path.{_≡_}
 use mathlib.Core.Bool.{Bool, true, false}
 use mathlib.Core.Option.{Option, none, some}
@@ -12,26 +12,7 @@ use Rattle.definition.specs.Text.{str, allAllowed, isSeparator, isWord, 
 use Rattle.definition.specs.Elements.{Role, name, names, masked, plain, roleOf, tagOf, keyOf}
 use Rattle.definition.specs.Event as E
 use Rattle.definition.specs.Event.{Line, lineOf, linesFrom, tailFrom, isNil, legible}
-use Rattle.definition.specs.Rows.{
-  Row,
-  Table,
-  Class,
-  free,
-  own,
-  docId,
-  above,
-  mark,
-  len,
-  code,
-  row,
-  existing,
-  text,
-  by,
-  columnsOf,
-  blank,
-  cellAt,
-  textAt,
-}
+use Rattle.definition.specs.Rows.{Row, Table, Class, free, own, docId, above, mark, len, code, row, existing, text, by, columnsOf, blank, cellAt, textAt}
 use Rattle.definition.specs.Reader.{Call, event, reading, Answer, Lent, counts, run, start}
 
 -- ---- renamings

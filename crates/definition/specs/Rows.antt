@@ -1,10 +1,10 @@
 -- Document 01, module 3: Rows. THE SCHEMA of tables: their columns and each column's class. Question 2, reading a row and demand 3 follow from it.
-use Prim.Native.Nat.{ℕ, zero, suc, _+_}
+use Prim.Native.Nat.{ℕ, zero, suc}
 use mathlib.Core.Bool.{Bool, true, false, _&&_}
-use mathlib.Core.List.{List, [], _∷_, _++_, map}
-use lib.ListN.{length, getD, set, take, drop, replicate}
-use lib.Dec.{eqb, leb, ltb}
-use Rattle.definition.specs.Text.{Span, bytesAt}
+use mathlib.Core.List.{List, [], _∷_, _++_}
+use lib.ListN.{length, getD, set, replicate}
+use lib.Dec.{eqb}
+use Rattle.definition.specs.Text.{bytesAt}
 use Rattle.definition.specs.Elements.{Role, name, names, masked, plain}
 
 abbrev pub Row : Type 0

@@ -3,43 +3,11 @@
 use Prim.Native.Nat.{ℕ, zero, suc, _+_}
 use mathlib.Core.Bool.{Bool, true, false, _&&_, _||_, not}
 use mathlib.Core.List.{List, [], _∷_, _++_}
-use lib.ListN.{length, getD, take}
+use lib.ListN.{length, getD}
 use lib.Dec.{eqb, leb, ltb}
 use Rattle.definition.specs.declared.Limits.{Limits}
-use Rattle.definition.specs.Text.{same}
 use Rattle.definition.specs.Elements.{tag, tagOf, among}
-use Rattle.definition.specs.Rows.{
-  Row,
-  Table,
-  table,
-  choices,
-  state,
-  transition,
-  region,
-  entry,
-  opened,
-  openRegion,
-  Class,
-  free,
-  own,
-  docId,
-  above,
-  mark,
-  len,
-  code,
-  row,
-  existing,
-  text,
-  by,
-  schema,
-  num,
-  Cell,
-  cellAt,
-  textAt,
-  Numbers,
-  tableOf,
-  Store,
-}
+use Rattle.definition.specs.Rows.{Row, Table, table, choices, region, entry, opened, openRegion, Class, free, own, docId, above, mark, len, code, row, existing, text, by, schema, num, Cell, textAt, Numbers, tableOf, Store}
 use Rattle.definition.specs.Look.{findName, nameCells, openName}
 use Rattle.definition.specs.Actions.{placeOfNumber}
 

@@ -1,35 +1,12 @@
 -- THE SCHEMA of what elements store: for each element the shapes of the rows that it makes or rewrites, with a source for each text column. Handlers name
 -- shapes and never a text; one computed test shows that every source fits its column's class.
-use Prim.Native.Nat.{ℕ, zero, suc}
+use Prim.Native.Nat.{ℕ}
 use mathlib.Core.Bool.{Bool, true, false, _&&_}
 use mathlib.Core.List.{List, [], _∷_}
 use lib.ListN.{getD}
 use lib.Dec.{eqb}
 use Rattle.definition.specs.Elements.{tag, key, Role, name, names, masked, plain, roleOf}
-use Rattle.definition.specs.Rows.{
-  table,
-  chart,
-  state,
-  transition,
-  entry,
-  invoke,
-  item,
-  parameter,
-  member,
-  Class,
-  free,
-  own,
-  docId,
-  above,
-  mark,
-  len,
-  code,
-  row,
-  existing,
-  text,
-  by,
-  columnsOf,
-}
+use Rattle.definition.specs.Rows.{table, chart, state, transition, entry, invoke, item, parameter, member, Class, free, own, docId, above, mark, len, code, row, existing, text, by, columnsOf}
 
 -- Where a text column's text comes from.
 --   absent    none

@@ -9,25 +9,7 @@ use lib.Dec.{eqb}
 use Rattle.definition.specs.Limits.{limits01}
 use Rattle.definition.specs.Text.{str, same}
 use Rattle.definition.specs.Event.{eventsOf}
-use Rattle.definition.specs.Rows.{
-  Row,
-  table,
-  list,
-  state,
-  transition,
-  entry,
-  member,
-  num,
-  rowOf,
-  cellAt,
-  textAt,
-  tableOf,
-  Store,
-  empty,
-  listed,
-  valuesOf,
-  internal,
-}
+use Rattle.definition.specs.Rows.{Row, table, list, state, transition, entry, member, num, rowOf, cellAt, textAt, tableOf, Store, empty, listed, valuesOf, internal}
 use Rattle.definition.specs.Reader.{Reply, eventReply, placeOf}
 
 -- ---- a stream from the empty chart

@@ -4,49 +4,10 @@ use mathlib.Core.Bool.{Bool, true, false}
 use mathlib.Core.List.{List, [], _∷_}
 use lib.ListN.{length, getD}
 use lib.Dec.{eqb}
-use Rattle.definition.specs.Elements.{tag, key, among}
-use Rattle.definition.specs.Rows.{
-  table,
-  list,
-  chart,
-  state,
-  transition,
-  item,
-  num,
-  rowOf,
-  internal,
-  shallow,
-  Numbers,
-  tableOf,
-  listed,
-  valuesOf,
-  currentState,
-  root,
-}
+use Rattle.definition.specs.Elements.{key, among}
+use Rattle.definition.specs.Rows.{table, list, chart, state, transition, item, num, rowOf, internal, shallow, Numbers, tableOf, listed, valuesOf, currentState, root}
 use Rattle.definition.specs.Look.{Look}
-use Rattle.definition.specs.Change.{
-  _≔_,
-  numbers,
-  shape,
-  Change,
-  Outcome,
-  done,
-  refuse,
-  _▷_,
-  nothing,
-  adding,
-  altering,
-  nextId,
-  nextDoc,
-  drawId,
-  drawDoc,
-  inState,
-  addMember,
-  addMembers,
-  unlessZero,
-  has,
-  codeFor,
-}
+use Rattle.definition.specs.Change.{_≔_, numbers, shape, Change, Outcome, done, refuse, _▷_, nothing, adding, altering, nextId, nextDoc, drawId, drawDoc, inState, addMember, addMembers, unlessZero, has, codeFor}
 
 -- The state that the element names, and the states that its `initial` words name.
 unfoldable pub ownState : Look → ℕ
