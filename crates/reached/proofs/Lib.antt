@@ -1,0 +1,17 @@
+pub mod Tables
+pub mod Edits
+pub mod Stack
+pub mod Growth
+pub mod Reached
+pub mod Steps
+pub mod StateStarts
+pub mod Effects
+pub mod RegionStarts
+pub mod LeafStarts
+pub mod ParamStarts
+pub mod Ends
+pub mod Looks
+pub mod Handled
+pub mod Theorem
+pub mod Lent
+pub mod Runs

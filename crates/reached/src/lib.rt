@@ -1,0 +1,1 @@
+// Internal errors: none from the empty chart. Proofs only.
