@@ -10,7 +10,7 @@ use Rattle.definition.specs.Elements.{among}
 use Rattle.definition.specs.Rows.{Row, Table, Class, num, blank, columnsOf, Cell, cellAt, withCell, free}
 use Rattle.definition.specs.Shapes.{Filling, Shape, Shaped, shapeAt, shapesIn, shapesByElement, noShape}
 use Rattle.definition.specs.Look.{Look}
-use Rattle.definition.specs.Change.{Put, shape, Edit, add, alter, cellOf, filledBy, putOne, putAll, isNumber, shapeOf, alterRow, onTable, edited, editedBy}
+use Rattle.definition.specs.Change.{Put, Edit, add, alter, cellOf, filledBy, putOne, putAll, isNumber, shapeOf, alterRow, onTable, edited, editedBy}
 use Rattle.reached.proofs.Tables.{set-view, and-left, and-right, both, among-not}
 
 -- ---- safe edits

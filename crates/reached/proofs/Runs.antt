@@ -12,14 +12,11 @@ use Rattle.definition.specs.Rows.{Table, blank, schema, noTables, empty, Store}
 use Rattle.definition.specs.Rules.{chartLimits, openLimits, tableLimits, allWithin, countersWithin, tablesKeep, namesDistinct, numbersFit, openNamesFit, openRegionsFit, isRowOrZero, keepsRules}
 use Rattle.definition.specs.Reader.{Reply, eventReply, Lent, Position, counts, taken, storeOf, positionOf, lentAfter, allLong, longEnough, allAtMost, inOrder, start, Streamed, streamed, stream, Call, event, reading, Answer, refused, answerOf, answerTo, exists, rowRead, call, run, noRow}
 use Rattle.definition.specs.Renaming.{zeros, zeroTables}
+use Rattle.reached.specs.Statements.{NoneIsTwo}
 use Rattle.reached.proofs.Tables.{and-left, both}
 use Rattle.reached.proofs.Reached.{Reached}
 use Rattle.reached.proofs.Theorem.{Answered, event-ok, empty-reached}
 use Rattle.reached.proofs.Lent.{read-back, in-order, long-after, long-twelve, long-chart}
-
-unfoldable pub NoneIsTwo : List Answer → Type 0
-NoneIsTwo [] = Unit {0}
-NoneIsTwo (a ∷ as′) = ¬ (a .number ≡ 2) × NoneIsTwo as′
 
 -- ---- the empty chart keeps the rules
 

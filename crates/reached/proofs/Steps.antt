@@ -8,7 +8,7 @@ use Rattle.definition.specs.Elements.{among, namesState}
 use Rattle.definition.specs.Nesting.{parentAllowed}
 use Rattle.definition.specs.Rows.{Table, Numbers, currentState, parentTag}
 use Rattle.definition.specs.Look.{Look}
-use Rattle.definition.specs.Change.{Put, Which, numbers, shape, Edit, add, alter, Change, Outcome, done, refuse, also, adding, altering, drawn, addMember, addMembers, addWordsFrom, addWords, unlessZero, shapeOf, nothing, editedBy}
+use Rattle.definition.specs.Change.{Put, Which, numbers, shape, Edit, add, alter, Change, Outcome, done, refuse, also, adding, altering, drawn, addMember, addMembers, addWordsFrom, addWords, unlessZero, shapeOf, editedBy}
 use Rattle.definition.specs.States.{ownState}
 use Rattle.reached.proofs.Tables.{both, among-within, among-not, within}
 use Rattle.reached.proofs.Edits.{safeShape, safeTexts, safeEdit, safeEdits, safe-append, edits-append, shapes-safe}

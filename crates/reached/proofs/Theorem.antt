@@ -16,6 +16,7 @@ use Rattle.definition.specs.Look.{Look, look, textAfter}
 use Rattle.definition.specs.Change.{entered}
 use Rattle.definition.specs.Rules.{withinLimits}
 use Rattle.definition.specs.Reader.{isStart, Question, questions, firstNo, Verdict, accept, reject, handled, limited, decided, Reply, settled, replyTo, eventReply}
+use Rattle.reached.specs.Statements.{NoInternalError}
 use Rattle.reached.specs.Fed.{fed}
 use Rattle.reached.proofs.Tables.{AllRows, and-left}
 use Rattle.reached.proofs.Stack.{idle, Idle, Bare}
@@ -177,5 +178,5 @@ unfolding fed
 fed-reached L s [] R = R
 fed-reached L s (r ∷ rs) R = fed-reached L (eventReply L s r .store) rs (event-ok L s r R .reached)
 
-pub no-internal-error : (L : Limits) (raws : List (List ℕ)) (raw : List ℕ) → ¬ (eventReply L (fed L empty raws) raw .number ≡ 2)
+pub no-internal-error : NoInternalError
 no-internal-error L raws raw = event-ok L (fed L empty raws) raw (fed-reached L empty raws empty-reached) .number
