@@ -1,5 +1,3 @@
-pub mod Dump
-pub mod Compare
 pub mod Made
 pub mod Base
 pub mod Lent
@@ -7,4 +5,3 @@ pub mod Internal
 pub mod Bounds
 pub mod Readings
 pub mod Calls
-pub mod Numbers

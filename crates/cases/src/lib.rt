@@ -1,1 +1,1 @@
-// Closed cases of the definition: specs/ holds them, and proofs/ the theorems that none is wrong.
+// Calls from made-up stores: specs/ holds the cases, and proofs/ the theorems that none is wrong.

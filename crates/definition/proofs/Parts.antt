@@ -1,7 +1,7 @@
 -- The words of a plain value and its trimmed part lie inside it.
 use Prim.Native.Nat.{ℕ, suc, _+_, _≤_}
-use mathlib.Core.Path.{_≡_, refl, sym, ap, _∙_}
-use mathlib.Core.Bool.{Bool, true, false, _&&_, cond}
+use mathlib.Core.Path.{_≡_, refl, sym}
+use mathlib.Core.Bool.{Bool, true, false, _&&_}
 use mathlib.Core.List.{List, [], _∷_, _++_, map, reverse, append-nil}
 use lib.ListN.{length, drop, length-drop, length-reverse}
 use lib.Dec.{eqb}
@@ -10,7 +10,7 @@ use native.Mathlib.Omega.{arith}
 use Rattle.definition.specs.Text.{Span, bytesAt, isSpace, Piece, wordsBy, stripLast, stripped, strippedPiece, eventWords, stateWords, leading, bodyLength, trim}
 use Rattle.definition.specs.Elements.{key}
 use Rattle.definition.specs.Look.{spanOf, isEvents, isNamelist, wordSpans}
-use Rattle.definition.proofs.Base.{All, elim-cond}
+use Rattle.definition.proofs.Base.{All}
 use Rattle.definition.proofs.Words.{Located, pieces-located}
 use Rattle.definition.proofs.Names.{bytesAt-append}
 
@@ -43,30 +43,19 @@ trim-inside v = omega (arith, leading-le v, body-le (drop (leading v) v), length
 
 -- ---- words
 
-strip-one : (b : ℕ) → stripLast (b ∷ []) ≡ cond (eqb b 46) [] (b ∷ [])
-unfolding stripLast
-strip-one b = elim-cond (eqb b 46) [] (b ∷ [])
+pick-le : (p : Bool) (x y : List ℕ) (n : ℕ) → length x ≤ n → length y ≤ n → length {A = ℕ} (elim p as (λ z. List ℕ) [ true ↦ x | false ↦ y ]) ≤ n
+pick-le true x y n h k = h
+pick-le false x y n h k = k
 
-strip-two : (b c : ℕ) (r : List ℕ) → stripLast (b ∷ c ∷ r) ≡ cond (eqb b 46) (stripLast (c ∷ r)) (cond (eqb b 42 && eqb c 46) (stripLast r) (b ∷ c ∷ r))
-unfolding stripLast
-strip-two b c r =
-    elim-cond (eqb b 46) (stripLast (c ∷ r)) (elim (eqb b 42 && eqb c 46) as (λ z. List ℕ) [ true ↦ stripLast r | false ↦ b ∷ c ∷ r ])
-    ∙ ap (cond (eqb b 46) (stripLast (c ∷ r))) (elim-cond (eqb b 42 && eqb c 46) (stripLast r) (b ∷ c ∷ r))
-
-cond-le : (p : Bool) (x y : List ℕ) (n : ℕ) → length x ≤ n → length y ≤ n → length (cond p x y) ≤ n
-cond-le true x y n h k = h
-cond-le false x y n h k = k
-
+-- However often it is stripped.
 strip-le : (w : List ℕ) → length (stripLast w) ≤ length w
 unfolding stripLast
 strip-le [] = omega arith
-strip-le (b ∷ []) = rw (strip-one b) (cond-le (eqb b 46) [] (b ∷ []) 1 (omega arith) (omega arith))
+strip-le (b ∷ []) = pick-le (eqb b 46) _ _ 1 (omega arith) (omega arith)
 strip-le (b ∷ c ∷ r) =
     let h : length (stripLast (c ∷ r)) ≤ suc (length r) = strip-le (c ∷ r) in
     let k : length (stripLast r) ≤ length r = strip-le r in
-    rw (strip-two b c r)
-    (cond-le (eqb b 46) (stripLast (c ∷ r)) (cond (eqb b 42 && eqb c 46) (stripLast r) (b ∷ c ∷ r)) (suc (suc (length r))) (omega arith)
-    (cond-le (eqb b 42 && eqb c 46) (stripLast r) (b ∷ c ∷ r) (suc (suc (length r))) (omega arith) (omega arith)))
+    pick-le (eqb b 46) _ _ (suc (suc (length r))) (omega (arith, h)) (pick-le (eqb b 42 && eqb c 46) _ _ (suc (suc (length r))) (omega (arith, k)) (omega arith))
 
 stripped-le : (w : List ℕ) → length (stripped w) ≤ length w
 unfolding stripped

@@ -182,6 +182,12 @@ stars =
     ∷ gets (inDonedata ++ wholeContent) 11 4
     -- The next rows have no ★. "An event word loses a trailing `.*`, then a trailing `.`, repeated until neither is left."
     ∷ strips "a.*.* b.. *" ("a" ∷ "b" ∷ "*" ∷ []) 1
+    -- "Targets, `initial` and namelists split at 9, 10, 12, 13, 32 only"; "contents trim at bytes 9 to 13 and 32."
+    ∷ gives (scxml ++ str "event=open\nname=state\nkey=id\nvalue=a\nkey=initial\nvalue=b\u{b}c\td\n") (
+    members (list .targets) 1 (3 ∷ 4 ∷ []) ∷ name (table .states) 3 (state .name) "b\u{b}c" ∷ name (table .states) 4 (state .name) "d" ∷ [])
+    ∷ gives (inA ++ str "event=open\nname=onentry\nevent=open\nname=send\nkey=namelist\nvalue=x\u{b}y\u{c}z\n") (words (list .sendNames) 1 ("x\u{b}y" ∷ "z" ∷ []) ∷ [])
+    ∷ gives (inA ++ str "event=open\nname=invoke\nkey=namelist\nvalue= x\u{b}y\rz\n") (words (list .invokeNames) 1 ("x\u{b}y" ∷ "z" ∷ []) ∷ [])
+    ∷ gives (scxml ++ str "event=whole\nname=script\ntext= \u{b}x y\u{c}\t\\n\n") (name (table .entries) 1 (entry .text) "x y" ∷ [])
     -- "Transition: transition number, doc id, region number, targets."
     ∷ gives (inA ++ str "event=open\nname=transition\nkey=target\nvalue=b a b\n") (
     number (table .transitions) 1 (transition .doc) 3

@@ -1,4 +1,4 @@
-//! A stream with what the judge made of it, as a case of crates/cases/specs/Compare.antt.
+//! A stream with what the judge made of it, as a case of crates/compare/specs/Compare.antt.
 
 use crate::numbers;
 use rufsm::answer;

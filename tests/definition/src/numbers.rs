@@ -1,4 +1,4 @@
-//! A chart as the list of numbers that crates/cases/specs/Dump.antt makes of the definition's.
+//! A chart as the list of numbers that crates/compare/specs/Dump.antt makes of the definition's.
 
 use rufsm::chart::*;
 

@@ -5,7 +5,7 @@ use std::fs;
 use std::path::{Path, PathBuf};
 use std::process::Command;
 
-const COPIED: [&str; 2] = ["definition", "cases"];
+const COPIED: [&str; 2] = ["definition", "compare"];
 /// Modules in one crate: a crate is checked by one thread.
 const MODULES: usize = 8;
 const CLAIM: &str = "right";
@@ -40,7 +40,7 @@ use mathlib.Core.Path.{_≡_, refl}
 use mathlib.Core.Bool.{true}
 use mathlib.Core.List.{List, [], _∷_}
 use Rattle.definition.specs.Text.{str}
-use Rattle.cases.specs.Compare.{Case, right}
+use Rattle.compare.specs.Compare.{Case, right}
 ";
 
 /// A case and the claim that it is right. The checker's step limit is per claim, and its refusal names the claim.
@@ -103,8 +103,8 @@ pub fn wrong(cases: &[Case], batch: usize) -> Result<Vec<usize>, String> {
         copy(&repository().join("crates").join(name), &root.join("crates").join(name))?;
     }
     let names = crates(&root, cases, batch)?;
-    let lines: String = names.iter().map(|name| format!("{name}: definition cases\n")).collect();
-    write(&root.join("crates.txt"), &format!("definition:\ncases: definition\n{lines}"))?;
+    let lines: String = names.iter().map(|name| format!("{name}: definition compare\n")).collect();
+    write(&root.join("crates.txt"), &format!("definition:\ncompare: definition\n{lines}"))?;
     let (proved, output) = check(&root)?;
     let found = places(&output);
     match (proved, found.is_empty()) {

@@ -8,7 +8,7 @@ use Rattle.definition.specs.Elements.{among}
 use Rattle.definition.specs.Event.{eventsOf}
 use Rattle.definition.specs.Rows.{Store, empty}
 use Rattle.definition.specs.Stars.{Fed, feed}
-use Rattle.cases.specs.Dump.{dump}
+use Rattle.compare.specs.Dump.{dump}
 
 -- answers: the numbers that the Rust's outcome leaves open; 0 alone for a stream that it takes. event: where it refuses.
 pub record Case : Type 0 where

@@ -1,0 +1,15 @@
+-- Calls from made-up stores: one table, of which no row is wrong; and lists of calls.
+use mathlib.Core.Path.{_≡_, refl}
+use mathlib.Core.List.{[]}
+use Rattle.definition.specs.Stars.{wrong}
+use Rattle.cases.specs.Made.{right}
+use Rattle.cases.specs.Calls.{calls}
+use Rattle.cases.specs.Readings.{runRight, runs}
+
+pub none-wrong : wrong right 1 calls ≡ []
+unfolding wrong right calls
+none-wrong = refl
+
+pub no-run-wrong : wrong runRight 1 runs ≡ []
+unfolding wrong runRight runs
+no-run-wrong = refl

@@ -1,0 +1,1 @@
+// The definition held to the running Rust: tests/definition writes the cases.
