@@ -74,7 +74,7 @@ module _ (ρ : List ℕ → List ℕ) (R : Total ρ) where
     pub find-ρ : (cs : List Cell) (w : List ℕ) → All (Held t u name) cs → findName u cs (ρ w) ≡ findName t cs w
     unfolding findName
     find-ρ [] w a = refl
-    find-ρ (c ∷ cs) w a = rw (find-cons, a .0 .moved, same-ρ, find-ρ cs w (a .1)) (sym (find-cons t c cs w))
+    find-ρ (c ∷ cs) w a = rw (find-cons u c cs (ρ w), a .0 .moved, same-ρ, find-ρ cs w (a .1)) (sym (find-cons t c cs w))
 
     -- A piece that lies in both texts.
     pub record Both (p : Piece) : Type 0 where
