@@ -35,7 +35,7 @@ empty-fits : (L : Limits) → allWithin (tableLimits L) (empty .numbers .tables)
 unfolding empty noTables tableLimits chartLimits openLimits allWithin
 empty-fits L = empty-within (L .states ∷ L .transitions ∷ L .regions ∷ L .entries ∷ L .invokes ∷ L .items ∷ L .parameters ∷ L .members ∷ L .opened ∷ L .opened ∷ (L .opened + L .opened) ∷ []) 11
 
-empty-keeps : (L : Limits) → keepsRules L empty ≡ true
+pub empty-keeps : (L : Limits) → keepsRules L empty ≡ true
 unfolding keepsRules empty noTables tablesKeep namesDistinct numbersFit openNamesFit openRegionsFit isRowOrZero schema
 empty-keeps L = rw (both (allWithin (tableLimits L) (empty .numbers .tables) && countersWithin L (empty .numbers)) true (both (allWithin (tableLimits L) (empty .numbers .tables)) _ (empty-fits L) (empty-counted L)) refl, keepsRules) refl
 

@@ -1,0 +1,103 @@
+-- Small facts that the other proofs use.
+use Prim.Native.Nat.{ℕ, zero, suc, _≤_}
+use mathlib.Core.Path.{_≡_, refl, sym, _∙_, subst}
+use mathlib.Core.Bool.{Bool, true, false, _&&_, _||_}
+use mathlib.Core.List.{List, [], _∷_, _++_}
+use lib.ListN.{getD, set}
+use lib.Dec.{T, eqb, leb, leb→le, le→leb, eqb→eq, eqb-refl}
+
+pub true-is-false : {X : Type 0} → true ≡ false → X
+true-is-false e = absurd (subst T e tt)
+
+pub false-is-true : {X : Type 0} → false ≡ true → X
+false-is-true e = true-is-false (sym e)
+
+pub T-of : (c : Bool) → c ≡ true → T c
+T-of true e = tt
+T-of false e = false-is-true e
+
+pub is-true : (c : Bool) → T c → c ≡ true
+is-true true t = refl
+is-true false t = absurd t
+
+pub and-left : (p q : Bool) → (p && q) ≡ true → p ≡ true
+and-left true q e = refl
+and-left false q e = e
+
+pub and-right : (p q : Bool) → (p && q) ≡ true → q ≡ true
+and-right true q e = e
+and-right false q e = false-is-true e
+
+pub and-both : (p q : Bool) → p ≡ true → q ≡ true → (p && q) ≡ true
+and-both true q e f = f
+and-both false q e f = false-is-true e
+
+pub le-of : (a b : ℕ) → leb a b ≡ true → a ≤ b
+le-of a b e = leb→le a b (T-of (leb a b) e)
+
+pub leb-of : (a b : ℕ) → a ≤ b → leb a b ≡ true
+leb-of a b h = is-true (leb a b) (le→leb a b h)
+
+pub eq-of : (a b : ℕ) → eqb a b ≡ true → a ≡ b
+eq-of a b e = eqb→eq a b (T-of (eqb a b) e)
+
+pub eqb-of : (a b : ℕ) → a ≡ b → eqb a b ≡ true
+eqb-of a b e = rw e (is-true (eqb b b) (eqb-refl b))
+
+pub neqb-of : (a b : ℕ) → ¬ (a ≡ b) → eqb a b ≡ false
+neqb-of a b h = go (eqb a b) refl
+  where
+    go : (c : Bool) → eqb a b ≡ c → c ≡ false
+    go true e = absurd (h (eq-of a b e))
+    go false e = refl
+
+pub neq-of : (a b : ℕ) → eqb a b ≡ false → ¬ (a ≡ b)
+neq-of a b e h = true-is-false (sym (eqb-of a b h) ∙ e)
+
+-- A test: both answers, with what they say.
+pub test : {X : Type 0} (c : Bool) → (c ≡ true → X) → (c ≡ false → X) → X
+test true f g = f refl
+test false f g = g refl
+
+-- A predicate that goes by the place in a list, and holds past its end too.
+abbrev pub AllAt {ℓ} : {A : Type ℓ} → (ℕ → A → Type 0) → A → List A → Type 0
+AllAt P d [] = (i : ℕ) → P i d
+AllAt P d (x ∷ xs) = P 0 x × AllAt (λ i. P (suc i)) d xs
+
+pub at-place {ℓ} : {A : Type ℓ} (P : ℕ → A → Type 0) (d : A) (xs : List A) → AllAt P d xs → (i : ℕ) → P i (getD xs i d)
+at-place P d [] a i = a i
+at-place P d (x ∷ xs) a zero = a .0
+at-place P d (x ∷ xs) a (suc i) = at-place (λ j. P (suc j)) d xs (a .1) i
+
+abbrev pub All {ℓ} : {A : Type ℓ} → (A → Type 0) → List A → Type 0
+All P [] = Unit {0}
+All P (x ∷ xs) = P x × All P xs
+
+pub All-getD {ℓ} : {A : Type ℓ} (P : A → Type 0) (d : A) → P d → (xs : List A) → All P xs → (i : ℕ) → P (getD xs i d)
+All-getD P d k [] a i = k
+All-getD P d k (x ∷ xs) a zero = a .0
+All-getD P d k (x ∷ xs) a (suc i) = All-getD P d k xs (a .1) i
+
+pub All-map {ℓ} : {A : Type ℓ} (P Q : A → Type 0) → ((x : A) → P x → Q x) → (xs : List A) → All P xs → All Q xs
+All-map P Q f [] a = tt
+All-map P Q f (x ∷ xs) a = (f x (a .0), All-map P Q f xs (a .1))
+
+pub All-append {ℓ} : {A : Type ℓ} (P : A → Type 0) (xs ys : List A) → All P xs → All P ys → All P (xs ++ ys)
+All-append P [] ys a b = b
+All-append P (x ∷ xs) ys a b = (a .0, All-append P xs ys (a .1) b)
+
+-- What stands at a place after a set: the new value, or what stood there.
+pub getD-set {ℓ} : {A : Type ℓ} (P : ℕ → A → Type 0) (xs : List A) (d : A) (k : ℕ) (x : A) → ((i : ℕ) → P i (getD xs i d)) → P k x → (i : ℕ) → P i (getD (set xs k x) i d)
+getD-set P [] d k x h p i = h i
+getD-set P (y ∷ ys) d zero x h p zero = p
+getD-set P (y ∷ ys) d zero x h p (suc i) = h (suc i)
+getD-set P (y ∷ ys) d (suc k) x h p zero = h zero
+getD-set P (y ∷ ys) d (suc k) x h p (suc i) = getD-set (λ j. P (suc j)) ys d k x (λ j. h (suc j)) p i
+
+pub or-right : (p q : Bool) → p ≡ false → (p || q) ≡ true → q ≡ true
+or-right true q f e = true-is-false f
+or-right false q f e = e
+
+pub or-of : (p q : Bool) → (p ≡ false → q ≡ true) → (p || q) ≡ true
+or-of true q f = refl
+or-of false q f = f refl

@@ -1,0 +1,1 @@
+// Proofs only: every accepted event keeps the chart rules.
