@@ -1,11 +1,11 @@
--- No handler answers 15.
+-- A handler refuses with a number of at most 14: 2, 13 or 14.
 use Prim.Native.Nat.{ℕ, zero, suc}
 use mathlib.Core.Path.{_≡_, refl}
 use mathlib.Core.Bool.{Bool, true, false, _||_}
 use mathlib.Core.Option.{Option, none, some}
 use mathlib.Core.List.{List, [], _∷_}
 use lib.ListN.{length}
-use lib.Dec.{eqb}
+use lib.Dec.{eqb, leb}
 use Rattle.definition.specs.Elements.{tag, key}
 use Rattle.definition.specs.Rows.{table, entryKind, entry, state, num, root, chart, transition, invoke, Numbers, tableOf, currentState, currentTransition, parentTag, rowOf}
 use Rattle.definition.specs.Event.{kind}
@@ -18,7 +18,7 @@ use Rattle.kept.proofs.Base.{at-place}
 
 pub data Low : Outcome → Type 0 where
   well : {c : Change} → Low (done c)
-  other : {k : ℕ} → eqb k 15 ≡ false → Low (refuse k)
+  other : {k : ℕ} → leb k 14 ≡ true → Low (refuse k)
 
 either : (b : Bool) (x y : Outcome) → Low x → Low y → Low (elim b as (λ z. Outcome) [ true ↦ x | false ↦ y ])
 either true x y p q = p

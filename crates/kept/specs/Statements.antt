@@ -1,5 +1,5 @@
 -- What is claimed of every store that keeps the chart rules, and of every refusal.
-use Prim.Native.Nat.{ℕ, suc}
+use Prim.Native.Nat.{ℕ, suc, _≤_}
 use mathlib.Core.Path.{_≡_}
 use mathlib.Core.Bool.{true, false}
 use mathlib.Core.List.{List}
@@ -15,6 +15,10 @@ use Rattle.definition.specs.Reader.{accept, reject, handled, decided, eventRepl
 abbrev pub RulesKept : Type 0
 RulesKept =
     (L : Limits) (s : Store) (raw : List ℕ) → leb (L .name) 64 ≡ true → keepsRules L s ≡ true → eventReply L s raw .number ≡ 0 → keepsRules L (eventReply L s raw .store) ≡ true
+
+-- Demand 1: "every event and every reading of a row, however malformed, gets 0 or a number 1 to 16."
+abbrev pub AtMostSixteen : Type 0
+AtMostSixteen = (L : Limits) (x : Lent) (p : Position) (c : Call) → call L x p c .number ≤ 16
 
 -- A refused event leaves the store as it was.
 abbrev pub RefusalKeeps : Type 0
