@@ -1,4 +1,4 @@
-// Counts what the leaves make of a stream of event lines: for a program, and for Rust and C.
+// Counts what the leaves make of a stream of event lines, for tests and for measuring speed. The functions are proved safe; the counts are only tested.
 
 #[repr(C)]
 pub struct Counts {
