@@ -1,32 +1,14 @@
 -- Small facts that the other proofs use.
 use Prim.Native.Nat.{ℕ, zero, suc, _≤_}
-use mathlib.Core.Path.{_≡_, refl, sym, _∙_, subst}
+use mathlib.Core.Path.{_≡_, refl, sym, _∙_}
 use mathlib.Core.Bool.{Bool, true, false, _&&_, _||_}
 use mathlib.Core.List.{List, [], _∷_, _++_}
 use lib.ListN.{getD, set}
-use lib.Dec.{T, eqb, leb, leb→le, le→leb, eqb→eq, eqb-refl}
-
-pub true-is-false : {X : Type 0} → true ≡ false → X
-true-is-false e = absurd (subst T e tt)
+use lib.Dec.{eqb, leb, leb→le, le→leb, eqb→eq, eqb-refl}
+pub use Rattle.definition.proofs.Base.{true-is-false, T-of, is-true, and-left, and-right, All}
 
 pub false-is-true : {X : Type 0} → false ≡ true → X
 false-is-true e = true-is-false (sym e)
-
-pub T-of : (c : Bool) → c ≡ true → T c
-T-of true e = tt
-T-of false e = false-is-true e
-
-pub is-true : (c : Bool) → T c → c ≡ true
-is-true true t = refl
-is-true false t = absurd t
-
-pub and-left : (p q : Bool) → (p && q) ≡ true → p ≡ true
-and-left true q e = refl
-and-left false q e = e
-
-pub and-right : (p q : Bool) → (p && q) ≡ true → q ≡ true
-and-right true q e = e
-and-right false q e = false-is-true e
 
 pub and-both : (p q : Bool) → p ≡ true → q ≡ true → (p && q) ≡ true
 and-both true q e f = f
@@ -68,10 +50,6 @@ pub at-place {ℓ} : {A : Type ℓ} (P : ℕ → A → Type 0) (d : A) (xs : Lis
 at-place P d [] a i = a i
 at-place P d (x ∷ xs) a zero = a .0
 at-place P d (x ∷ xs) a (suc i) = at-place (λ j. P (suc j)) d xs (a .1) i
-
-abbrev pub All {ℓ} : {A : Type ℓ} → (A → Type 0) → List A → Type 0
-All P [] = Unit {0}
-All P (x ∷ xs) = P x × All P xs
 
 pub All-getD {ℓ} : {A : Type ℓ} (P : A → Type 0) (d : A) → P d → (xs : List A) → All P xs → (i : ℕ) → P (getD xs i d)
 All-getD P d k [] a i = k

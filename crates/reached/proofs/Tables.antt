@@ -7,6 +7,7 @@ use lib.ListN.{length, getD, set}
 use lib.Dec.{eqb}
 use borrow.Author.Tests.{eqb-true, eq-eqb}
 use native.Mathlib.Omega.{arith}
+pub use Rattle.definition.proofs.Base.{and-left, and-right}
 use Rattle.definition.specs.Elements.{among}
 use Rattle.definition.specs.Rows.{Row, Table, num, lastOf}
 use Rattle.definition.specs.Change.{alterRow, withoutLast}
@@ -22,14 +23,6 @@ set-view P (y ∷ ys) (suc t) zero x d h p = p
 set-view P (y ∷ ys) (suc t) (suc k) x d h p = set-view P ys t k x d (λ e. h (ap suc e)) p
 
 -- ---- Booleans
-
-pub and-left : (a b : Bool) → a && b ≡ true → a ≡ true
-and-left true b e = refl
-and-left false b e = e
-
-pub and-right : (a b : Bool) → a && b ≡ true → b ≡ true
-and-right true b e = e
-and-right false b e = absurd (false≢true e)
 
 pub both : (a b : Bool) → a ≡ true → b ≡ true → a && b ≡ true
 both true b e f = f
