@@ -59,22 +59,22 @@ fn count_words(v: &[u8]) -> usize {
 }
 
 fn count_line(line: &[u8], c: Counts) -> Counts {
-    let found = event::scan_line(line);
+    let found = lines::scan_line(line);
     let ok = found.ok;
     let len = found.len;
     let mut out = c;
     out.lines = plus(c.lines, 1);
     out.illegible = plus(c.illegible, one_if(!ok));
     out.bytes = plus(c.bytes, len);
-    if event::has_head(line, b"name=") {
+    if lines::has_head(line, b"name=") {
         let tag = nesting::tag_of(behind(line, 5));
         out.known = plus(c.known, one_if(tag != 0));
         out.names = plus(c.names, one_if(nesting::names_state(tag)));
     }
-    if event::has_head(line, b"key=") {
+    if lines::has_head(line, b"key=") {
         out.keys = plus(c.keys, one_if(nesting::key_of(behind(line, 4)) != 0));
     }
-    if event::has_head(line, b"value=") {
+    if lines::has_head(line, b"value=") {
         out.words = plus(c.words, count_words(behind(line, 6)));
     }
     out
@@ -84,7 +84,7 @@ fn count_event(raw: &[u8], c: Counts) -> Counts {
     let mut out = c;
     let mut at = 0;
     while at < raw.len() {
-        let end = event::line_end(raw, at);
+        let end = lines::line_end(raw, at);
         if end < at {
             return out;
         }
@@ -110,7 +110,7 @@ pub fn count_stream(stream: &[u8]) -> Counts {
     };
     let mut at = 0;
     while at < stream.len() {
-        let end = event::next_event(stream, at);
+        let end = lines::next_event(stream, at);
         if end <= at {
             return out;
         }

@@ -16,66 +16,11 @@ use Rattle.definition.specs.Event.{Line, Attribute, Body, Event, lineOf, linesF
 use Rattle.event.specs.declared.Part.{Part}
 use Rattle.event.specs.declared.Pair.{Pair}
 use Rattle.event.specs.declared.Described.{Described}
-use Rattle.event.specs.Escapes.{counted, scanned}
-use Rattle.event.specs.Walk.{
-  Placed,
-  line,
-  placedLines,
-  part,
-  orNothing,
-  read,
-  partAt,
-  noPair,
-  blank,
-  broken,
-  withKind,
-  withName,
-  fits,
-  nameFits,
-  onEvent,
-  onName,
-  step,
-  walk,
-  shapeFits,
-  pairKeys,
-  isAmong,
-  allDiffer,
-  inShape,
-  finished,
-  described,
-}
+use Rattle.lines.specs.Escapes.{counted, scanned}
+use Rattle.lines.specs.Parts.{part, orNothing}
+use Rattle.event.specs.Walk.{Placed, line, placedLines, read, partAt, noPair, blank, broken, withKind, withName, fits, nameFits, onEvent, onName, step, walk, shapeFits, pairKeys, isAmong, allDiffer, inShape, finished, described}
 use Rattle.event.proofs.Standing.{Stands, AllStand, nil, cons, raw-stands, decoded, decoded-lines}
-use Rattle.event.proofs.WalkLaw.{
-  true-is-false,
-  none-is-some,
-  some-inj,
-  and-left,
-  and-right,
-  Fits,
-  yes,
-  no,
-  fits-of,
-  Reads,
-  PairReads,
-  Pairs,
-  no-pairs,
-  pair,
-  TextReads,
-  no-text,
-  a-text,
-  Kept,
-  Fitting,
-  Stopped,
-  Walked,
-  good,
-  bad,
-  Before,
-  walkAt,
-  walk-at,
-  walk-stays,
-  stopped,
-  body,
-}
+use Rattle.event.proofs.WalkLaw.{true-is-false, none-is-some, some-inj, and-left, and-right, Fits, yes, no, fits-of, Reads, PairReads, Pairs, no-pairs, pair, TextReads, no-text, a-text, Kept, Fitting, Stopped, Walked, good, bad, Before, walkAt, walk-at, walk-stays, stopped, body}
 
 name-limits : (n : List ℕ) → Fits 1 64 (legible n) (nameFits n)
 unfolding nameFits scanned

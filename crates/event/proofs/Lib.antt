@@ -1,5 +1,6 @@
-pub mod LineLaws
-pub mod EscapeLaws
 pub mod Standing
 pub mod WalkLaw
 pub mod EventLaw
+pub mod CodeLaws
+pub mod KeyLaws
+pub mod DescribeLaws

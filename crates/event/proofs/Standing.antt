@@ -12,7 +12,8 @@ use native.Mathlib.Omega.{arith}
 use Rattle.definition.specs.Text.{str}
 use Rattle.definition.specs.Event as E
 use Rattle.definition.specs.Event.{Line, after, headed, lineOf, linesFrom}
-use Rattle.event.specs.Walk.{Placed, line, placedLines, part}
+use Rattle.lines.specs.Parts.{part}
+use Rattle.event.specs.Walk.{Placed, line, placedLines}
 
 -- What follows a decoded line's head stands in raw.
 unfoldable pub Stands : List ℕ → ℕ → Line → Type 0
@@ -30,7 +31,7 @@ pub data AllStand (raw : List ℕ) : List Placed → Type 0 where
 
 -- ---- what follows a head
 
-after-split : (h l v : List ℕ) → after h l ≡ some v → l ≡ h ++ v
+pub after-split : (h l v : List ℕ) → after h l ≡ some v → l ≡ h ++ v
 unfolding after
 after-split [] l v e = cc
 after-split (x ∷ h) [] v e = let y : _≡_ {A = ℕ} 0 1 = cc in absurd (omega arith)

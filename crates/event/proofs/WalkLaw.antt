@@ -13,13 +13,14 @@ use native.Mathlib.Numerals.{add-one}
 use Rattle.definition.specs.Limits.{limits01}
 use Rattle.definition.specs.Event as E
 use Rattle.definition.specs.Event.{Line, Attribute, Body, legible, withPair, lastText, bodyOf, between, attributesFit, textFits}
-use Rattle.event.specs.declared.Scan.{Scan}
+use Rattle.lines.specs.declared.Scan.{Scan}
 use Rattle.event.specs.declared.Part.{Part}
 use Rattle.event.specs.declared.Pair.{Pair}
 use Rattle.event.specs.declared.Described.{Described}
-use Rattle.event.specs.Escapes.{counted, scanned}
+use Rattle.lines.specs.Escapes.{counted, scanned}
 use Rattle.event.specs.Walk as W
-use Rattle.event.specs.Walk.{Placed, line, part, partAt, broken, withKey, withValue, withText, fits, keyFits, valueFits, roomLeft, onKey, onValue, step, walk}
+use Rattle.lines.specs.Parts.{part}
+use Rattle.event.specs.Walk.{Placed, line, partAt, broken, withKey, withValue, withText, fits, keyFits, valueFits, roomLeft, onKey, onValue, step, walk}
 use Rattle.event.proofs.Standing.{Stands, AllStand, nil, cons, decoded}
 
 pub true-is-false : {X : Type 0} → true ≡ false → X

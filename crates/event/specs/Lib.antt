@@ -1,3 +1,1 @@
-pub mod Lines
-pub mod Escapes
 pub mod Walk

@@ -10,11 +10,12 @@ use Rattle.definition.specs.Text.{same, placeIn}
 use Rattle.definition.specs.Elements.{tagOf, holdsText}
 use Rattle.definition.specs.Event as E
 use Rattle.definition.specs.Event.{Line, lineOf, linesFrom, tailFrom, isNil, legible, kindNames}
-use Rattle.event.specs.declared.Scan.{Scan}
+use Rattle.lines.specs.declared.Scan.{Scan}
 use Rattle.event.specs.declared.Part.{Part}
 use Rattle.event.specs.declared.Pair.{Pair}
 use Rattle.event.specs.declared.Described.{Described}
-use Rattle.event.specs.Escapes.{scanned}
+use Rattle.lines.specs.Escapes.{scanned}
+use Rattle.lines.specs.Parts.{part, orNothing}
 
 -- A decoded line and where it begins.
 pub data Placed : Type 0 where
@@ -23,14 +24,6 @@ pub data Placed : Type 0 where
 unfoldable pub placedLines : ℕ → List (List ℕ) → List Placed
 placedLines at [] = []
 placedLines at (l ∷ ls) = line at (lineOf l) ∷ placedLines (at + suc (length l)) ls
-
-unfoldable pub part : List ℕ → ℕ → ℕ → List ℕ
-part raw at len = take len (drop at raw)
-
--- A part unescaped; nothing where it is illegible.
-unfoldable pub orNothing : Option (List ℕ) → List ℕ
-orNothing none = []
-orNothing (some v) = v
 
 unfoldable pub read : List ℕ → Part → List ℕ
 unfolding part orNothing legible

@@ -7,7 +7,7 @@ use Rattle.counted.proofs.count_event.Statement.{statement}
 use Rattle.counted.proofs.count_event.Tie as tie
 use Rattle.counted.proofs.count_event.Reads as reads
 use Rattle.counted.proofs.count_event.Lts as lts
-use Rattle.event.proofs.line_end.Reads as line-end-reads
+use Rattle.lines.proofs.line_end.Reads as line-end-reads
 use Rattle.counted.proofs.count_line.Reads as count-line-reads
 
 abbrev Inv-loop : tie.InvT-loop

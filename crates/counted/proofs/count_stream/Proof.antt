@@ -6,7 +6,7 @@ use Rattle.counted.proofs.count_stream.Statement.{statement}
 use Rattle.counted.proofs.count_stream.Tie as tie
 use Rattle.counted.proofs.count_stream.Reads as reads
 use Rattle.counted.proofs.count_stream.Lts as lts
-use Rattle.event.proofs.next_event.Reads as next-event-reads
+use Rattle.lines.proofs.next_event.Reads as next-event-reads
 use Rattle.counted.proofs.count_event.Reads as count-event-reads
 use Rattle.counted.proofs.plus.Reads as plus-reads
 

@@ -1,0 +1,12 @@
+use Rattle.event.specs.Walk.{blank}
+use borrow.Author.Needs.{needs}
+use mathlib.Core.Path.{refl}
+use Rattle.event.proofs.blank_with.Statement.{statement}
+use Rattle.event.proofs.blank_with.Tie as tie
+
+returns : tie.Need-returns
+unfolding blank
+returns c = refl
+
+pub blank-with-spec : {M : Type 1} → statement M
+blank-with-spec = tie.close (tie.spec returns)

@@ -1,0 +1,93 @@
+use lib.ListN.{length-map}
+use mathlib.Core.List.{List}
+use Rattle.definition.specs.Text.{same}
+use Prim.Native.Nat.{ℕ, _≤_, _<_, _+_, _-_}
+use mathlib.Core.Path.{_≡_, refl, sym, ap, _∙_}
+use lib.ListN.{length, getD, take, drop}
+use native.Mathlib.Omega.{arith}
+use borrow.Author.Needs.{needs}
+use Rattle.definition.specs.Event.{legible}
+use Rattle.lines.specs.Parts.{orNothing, part}
+use Rattle.event.specs.Walk.{read, noPair, pairKeys, isAmong}
+use Rattle.event.proofs.KeyLaws.{keysFrom, among-more, among-stop, among-none, among-past}
+use Rattle.event.proofs.key_repeats.Statement.{statement}
+use Rattle.event.proofs.key_repeats.Tie as tie
+
+abbrev Inv-loop : tie.InvT-loop
+Inv-loop raw i count pairs at len key j₀ j = (i < j) × (isAmong (orNothing (legible key)) (keysFrom raw pairs count j) ≡ isAmong (orNothing (legible key)) (keysFrom raw pairs count (i + 1)))
+
+abbrev μ-loop : tie.MeasureT-loop
+μ-loop raw i count pairs at len key j₀ j = 16 - j
+
+mul-p : tie.Need-mul-p Inv-loop μ-loop
+mul-p c = search needs
+
+array-copy-out-p : tie.Need-array-copy-out-p Inv-loop μ-loop
+array-copy-out-p c = search needs
+
+part-of-requires : tie.Need-part-of-requires Inv-loop μ-loop
+part-of-requires c κs = search needs
+
+add-j : tie.Need-add-j Inv-loop μ-loop
+add-j c = search needs
+
+loop-holds : tie.Need-loop-holds Inv-loop μ-loop
+loop-holds c = (search needs, refl)
+
+returns : tie.Need-returns Inv-loop μ-loop
+unfolding read part
+returns c = among-past (c .before .before .before .before .before .before .before .args .raw .now) (c .before .before .before .before .before .before .before .args .d .pairs) (c .before .before .before .before .before .before .before .args .d .count) (c .before .before .loop .j) (orNothing (legible (c .before .before .before .part-of .result .now))) (c .if1 .taken) ∙ c .before .before .loop .inv .1 ∙ ap (λ (x : List ℕ). isAmong (orNothing (legible x)) (keysFrom (c .before .before .before .before .before .before .before .args .raw .now) (c .before .before .before .before .before .before .before .args .d .pairs) (c .before .before .before .before .before .before .before .args .d .count) (c .before .before .before .before .before .before .before .args .i + 1))) (c .before .before .before .part-of .ensures)
+
+mul-q : tie.Need-mul-q Inv-loop μ-loop
+mul-q c = search needs
+
+array-copy-out-q : tie.Need-array-copy-out-q Inv-loop μ-loop
+array-copy-out-q c = search needs
+
+part-of-requires-2 : tie.Need-part-of-requires-2 Inv-loop μ-loop
+part-of-requires-2 c κs = search needs
+
+same-text-requires : tie.Need-same-text-requires Inv-loop μ-loop
+same-text-requires c κs = search needs
+
+returns-2 : tie.Need-returns-2 Inv-loop μ-loop
+unfolding read part
+returns-2 c =
+    among-stop (c .before .before .before .before .before .before .before .before .before .before .before .args .raw .now) (c .before .before .before .before .before .before .before .before .before .before .before .args .d .pairs) (c .before .before .before .before .before .before .before .before .before .before .before .args .d .count) (c .before .before .before .before .before .before .loop .j) (orNothing (legible (c .before .before .before .before .before .before .before .part-of .result .now))) (c .before .before .before .before .if1 .left) (omega (arith, simp length-map at (c .before .before .before .before .before .before .before .before .before .before .before .good .1 .0 .1 .1 .1 .1 .1 .1 .1 .1 .0 .1 .0 .1))) (ap (λ (x : List ℕ). same (orNothing (legible x)) (orNothing (legible (c .before .before .before .before .before .before .before .part-of .result .now)))) (sym (c .before .before .part-of2 .ensures)) ∙ sym (c .before .same-text .ensures) ∙ c .if2 .taken) ∙ c .before .before .before .before .before .before .loop .inv .1 ∙ ap (λ (x : List ℕ). isAmong (orNothing (legible x)) (keysFrom (c .before .before .before .before .before .before .before .before .before .before .before .args .raw .now) (c .before .before .before .before .before .before .before .before .before .before .before .args .d .pairs) (c .before .before .before .before .before .before .before .before .before .before .before .args .d .count) (c .before .before .before .before .before .before .before .before .before .before .before .args .i + 1))) (c .before .before .before .before .before .before .before .part-of .ensures)
+
+add-j-2 : tie.Need-add-j-2 Inv-loop μ-loop
+add-j-2 c = search needs
+
+loop-less : tie.Need-loop-less Inv-loop μ-loop
+loop-less c = search needs
+
+loop-again : tie.Need-loop-again Inv-loop μ-loop
+unfolding read part
+loop-again c =
+    (search needs, among-more (c .before .before .before .before .before .before .before .before .before .before .before .args .raw .now) (c .before .before .before .before .before .before .before .before .before .before .before .args .d .pairs) (c .before .before .before .before .before .before .before .before .before .before .before .args .d .count) (c .before .before .before .before .before .before .loop .j) (orNothing (legible (c .before .before .before .before .before .before .before .part-of .result .now))) (c .before .before .before .before .if1 .left) (omega (arith, simp length-map at (c .before .before .before .before .before .before .before .before .before .before .before .good .1 .0 .1 .1 .1 .1 .1 .1 .1 .1 .0 .1 .0 .1))) (ap (λ (x : List ℕ). same (orNothing (legible x)) (orNothing (legible (c .before .before .before .before .before .before .before .part-of .result .now)))) (sym (c .before .before .part-of2 .ensures)) ∙ sym (c .before .same-text .ensures) ∙ c .if2 .left) ∙ c .before .before .before .before .before .before .loop .inv .1)
+
+returns-3 : tie.Need-returns-3 Inv-loop μ-loop
+unfolding read part
+returns-3 c = among-none (c .before .before .before .before .before .before .args .raw .now) (c .before .before .before .before .before .before .args .d .pairs) (c .before .before .before .before .before .before .args .d .count) (c .before .loop .j) (orNothing (legible (c .before .before .part-of .result .now))) (omega (arith, simp length-map at (c .before .before .before .before .before .before .good .1 .0 .1 .1 .1 .1 .1 .1 .1 .1 .0 .1 .0 .1))) ∙ c .before .loop .inv .1 ∙ ap (λ (x : List ℕ). isAmong (orNothing (legible x)) (keysFrom (c .before .before .before .before .before .before .args .raw .now) (c .before .before .before .before .before .before .args .d .pairs) (c .before .before .before .before .before .before .args .d .count) (c .before .before .before .before .before .before .args .i + 1))) (c .before .before .part-of .ensures)
+
+pub key-repeats-spec : {M : Type 1} → statement M
+key-repeats-spec =
+    tie.close
+    (tie.spec
+    Inv-loop
+    μ-loop
+    mul-p
+    array-copy-out-p
+    part-of-requires
+    add-j
+    loop-holds
+    returns
+    mul-q
+    array-copy-out-q
+    part-of-requires-2
+    same-text-requires
+    returns-2
+    add-j-2
+    loop-less
+    loop-again
+    returns-3)

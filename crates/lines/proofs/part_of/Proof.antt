@@ -1,0 +1,69 @@
+use Rattle.lines.proofs.ReadLaws.{part-none, part-rest, part-mid}
+use lib.ListN.{length, getD, drop}
+use native.Mathlib.Omega.{arith}
+use mathlib.Core.Path.{_≡_, refl, sym, _∙_}
+use Prim.Native.Nat.{ℕ, _≤_, _<_, _+_, _-_}
+use borrow.Author.Needs.{needs}
+use Rattle.lines.proofs.part_of.Statement.{statement}
+use Rattle.lines.proofs.part_of.Tie as tie
+
+sub-result : tie.Need-sub-result
+sub-result c = search needs
+
+part-result-start : tie.Need-part-result-start
+part-result-start c = search needs
+
+part-result-end : tie.Need-part-result-end
+part-result-end c = search needs
+
+returns : tie.Need-returns
+returns c = part-none (c .before .before .args .raw .now) (c .before .before .args .at) (c .before .before .args .len) (c .before .if1 .taken)
+
+sub-if2 : tie.Need-sub-if2
+sub-if2 c = search needs
+
+sub-result-2 : tie.Need-sub-result-2
+sub-result-2 c = search needs
+
+part-result-start-2 : tie.Need-part-result-start-2
+part-result-start-2 c = search needs
+
+part-result-end-2 : tie.Need-part-result-end-2
+part-result-end-2 c = search needs
+
+returns-2 : tie.Need-returns-2
+returns-2 c = part-rest (c .before .before .before .args .raw .now) (c .before .before .before .args .at) (c .before .before .before .args .len) (c .before .if2 .taken)
+
+add-end : tie.Need-add-end
+add-end c = search needs
+
+sub-result-3 : tie.Need-sub-result-3
+sub-result-3 c = search needs
+
+part-result-start-3 : tie.Need-part-result-start-3
+part-result-start-3 c = search needs
+
+part-result-end-3 : tie.Need-part-result-end-3
+part-result-end-3 c = search needs
+
+returns-3 : tie.Need-returns-3
+returns-3 c = part-mid (c .before .before .before .args .raw .now) (c .before .before .before .args .at) (c .before .before .before .args .len)
+
+pub part-of-spec : {M : Type 1} → statement M
+part-of-spec =
+    tie.close
+    (tie.spec
+    sub-result
+    part-result-start
+    part-result-end
+    returns
+    sub-if2
+    sub-result-2
+    part-result-start-2
+    part-result-end-2
+    returns-2
+    add-end
+    sub-result-3
+    part-result-start-3
+    part-result-end-3
+    returns-3)
