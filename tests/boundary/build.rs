@@ -1,15 +1,17 @@
-//! Links the static library that `rt staticlib counted` writes.
+//! Links the static libraries that `rt staticlib counted` and `rt staticlib shown` write.
 
 use std::path::Path;
 
 fn main() {
     let folder = Path::new(env!("CARGO_MANIFEST_DIR")).join("../../target/staticlib");
-    let library = folder.join("libcounted.a");
-    if !library.exists() {
-        println!("cargo::error=target/staticlib/libcounted.a is not there: run `rt staticlib counted` in the repository first");
-        return;
-    }
     println!("cargo::rustc-link-search=native={}", folder.display());
-    println!("cargo::rustc-link-lib=static=counted");
-    println!("cargo::rerun-if-changed={}", library.display());
+    for name in ["counted", "shown"] {
+        let library = folder.join(format!("lib{name}.a"));
+        if !library.exists() {
+            println!("cargo::error=target/staticlib/lib{name}.a is not there: run `rt staticlib {name}` in the repository first");
+            return;
+        }
+        println!("cargo::rustc-link-lib=static={name}");
+        println!("cargo::rerun-if-changed={}", library.display());
+    }
 }

@@ -1,5 +1,7 @@
 //! The proved leaves as Rust sees them: functions callable from C, each behind a safe one.
 
+pub mod described;
+
 use rufsm::{event, nesting};
 
 /// What `leaf_counts` counts; the same fields in the same order as in crates/counted.

@@ -1,6 +1,8 @@
 //! The proved leaves against the judge's own parser, through the C boundary.
 
+use boundary::described::{self, described, expected_tally, tally};
 use boundary::{counts, expected};
+use rufsm::event;
 use rufsm::frames;
 use rufsm::generate::{stream, Profile};
 use std::path::Path;
@@ -9,13 +11,22 @@ fn repository() -> &'static Path {
     Path::new(concat!(env!("CARGO_MANIFEST_DIR"), "/../.."))
 }
 
+/// The leaves' counts, the tally, and each event's description field by field.
+fn check(stream: &[u8], what: &str) {
+    assert_eq!(counts(stream), expected(stream), "{what}");
+    assert_eq!(tally(stream), expected_tally(stream), "{what}");
+    for raw in event::split(stream) {
+        assert_eq!(described(raw), described::expected(raw), "{what}: {:?}", String::from_utf8_lossy(raw));
+    }
+}
+
 #[test]
 fn recorded_streams() {
     let file = std::fs::read(repository().join("tests/answers/streams.txt")).expect("the recorded streams");
     let streams = frames::parse(&file).expect("frames");
     assert!(streams.len() >= 400);
     for (name, body) in &streams {
-        assert_eq!(counts(body), expected(body), "stream {name}");
+        check(body, &format!("stream {name}"));
     }
 }
 
@@ -23,7 +34,7 @@ fn recorded_streams() {
 fn random_streams() {
     for index in 0..2_000 {
         let bytes = stream(5, index, Profile::Ordinary);
-        assert_eq!(counts(&bytes), expected(&bytes), "stream 5-{index}");
+        check(&bytes, &format!("stream 5-{index}"));
     }
 }
 
@@ -45,9 +56,9 @@ fn input() -> Vec<u8> {
 #[test]
 fn stored_input_and_output() {
     let folder = repository().join("crates/leafcount");
-    let c = expected(&input());
-    let counts = [c.events, c.lines, c.illegible, c.bytes, c.known, c.keys, c.names, c.words];
-    let labels = ["events", "lines", "illegible", "bytes", "known", "keys", "names", "words"];
+    let (c, t) = (expected(&input()), expected_tally(&input()));
+    let counts = [c.events, c.lines, c.illegible, c.bytes, c.known, c.keys, c.names, c.words, t.form, t.keys, t.pairs, t.bytes];
+    let labels = ["events", "lines", "illegible", "bytes", "known", "keys", "names", "words", "out of form", "repeated keys", "attributes", "values and texts"];
     let printed: String = labels.iter().zip(counts).map(|(label, count)| format!("{label}={count}\n")).collect();
     if std::env::var_os("LEAFCOUNT_WRITE").is_some() {
         std::fs::write(folder.join("stdin"), input()).expect("stdin");
@@ -63,7 +74,7 @@ fn damaged_streams() {
     for index in 0..40 {
         let bytes = stream(6, index, Profile::Small);
         for end in 0..bytes.len() {
-            assert_eq!(counts(&bytes[..end]), expected(&bytes[..end]), "stream 6-{index} to {end}");
+            check(&bytes[..end], &format!("stream 6-{index} to {end}"));
         }
     }
 }
@@ -73,6 +84,56 @@ fn each_byte_in_a_value() {
     for byte in 0..=255u8 {
         let mut bytes = b"event=open\nname=x\nkey=k\nvalue=a".to_vec();
         bytes.extend([byte, b'b', b'\n']);
-        assert_eq!(counts(&bytes), expected(&bytes), "byte {byte}");
+        check(&bytes, &format!("byte {byte}"));
     }
+}
+
+/// An event at each of its limits, and one past it.
+#[test]
+fn limits() {
+    let long = |head: &str, n: usize| format!("{head}{}\n", "a".repeat(n));
+    for (start, head, limit) in [
+        ("event=open\n", "name=", 64),
+        ("event=open\nname=x\n", "key=", 64),
+        ("event=open\nname=x\nkey=k\n", "value=", 1_024),
+        ("event=whole\nname=data\n", "text=", 4_096),
+    ] {
+        let end = if head == "key=" { "value=\n" } else { "" };
+        for n in [0, 1, limit - 1, limit, limit + 1] {
+            check(format!("{start}{}{end}", long(head, n)).as_bytes(), &format!("{head} of {n}"));
+        }
+    }
+    for n in 0..18 {
+        let pairs: String = (0..n).map(|i| format!("key=k{i}\nvalue=v\n")).collect();
+        check(format!("event=empty\nname=x\n{pairs}").as_bytes(), &format!("{n} attributes"));
+    }
+}
+
+/// Every element and key by its number, and with an escaped byte in it.
+#[test]
+fn numbers() {
+    for name in described::ELEMENTS {
+        for written in [name.to_string(), format!("{name}\\n"), format!("\\\\{name}"), name.to_uppercase()] {
+            check(format!("event=empty\nname={written}\n").as_bytes(), &written);
+        }
+    }
+    for key in described::KEYS {
+        for written in [key.to_string(), format!("{key}\\n"), format!("\\\\{key}"), key.to_uppercase()] {
+            check(format!("event=empty\nname=state\nkey={written}\nvalue=\n").as_bytes(), &written);
+        }
+    }
+}
+
+/// A key twice, at all pairs of places of five, and written alike but for an escape.
+#[test]
+fn repeated_keys() {
+    for first in 0..5 {
+        for second in 0..5 {
+            let keys: Vec<String> = (0..5).map(|i| if i == second { format!("k{first}") } else { format!("k{i}") }).collect();
+            let pairs: String = keys.iter().map(|key| format!("key={key}\nvalue=v\n")).collect();
+            check(format!("event=open\nname=x\n{pairs}").as_bytes(), &format!("key {second} as {first}"));
+        }
+    }
+    check(b"event=open\nname=x\nkey=a\\n\nvalue=\nkey=a\\n\nvalue=\n", "an escaped key twice");
+    check(b"event=open\nname=x\nkey=a\\n\nvalue=\nkey=a\\\\n\nvalue=\n", "two escaped keys");
 }

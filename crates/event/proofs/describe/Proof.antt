@@ -1,77 +1,55 @@
+use Rattle.event.proofs.DescribeLaws.{end-shape, end-keys, end-good}
 use Prim.Native.Nat.{ℕ, _≤_, _<_, _+_, _-_}
 use mathlib.Core.Path.{_≡_, refl, sym, ap, _∙_}
-use lib.ListN.{length, length-take, length-drop}
+use lib.ListN.{length, drop}
 use native.Mathlib.Omega.{arith}
+use borrow.Author.Tests.{not-true, not-false}
 use borrow.Author.Needs.{needs}
-use Rattle.event.proofs.DescribeLaws.{Left, left-start, left-more, left-open, left-closed, left-end}
+use borrow.Author.Needs.{needs}
 use Rattle.event.proofs.describe.Statement.{statement}
 use Rattle.event.proofs.describe.Tie as tie
 
-abbrev Inv-loop : tie.InvT-loop
-Inv-loop raw d₀ at₀ d at = Left raw at d
+walk-lines-requires : tie.Need-walk-lines-requires
+walk-lines-requires c κs = search needs
 
-abbrev μ-loop : tie.MeasureT-loop
-μ-loop raw d₀ at₀ d at = length raw - at
+holds-text-requires : tie.Need-holds-text-requires
+holds-text-requires c κs = search needs
 
-blank-with-requires : tie.Need-blank-with-requires Inv-loop μ-loop
+shape-fits-requires : tie.Need-shape-fits-requires
+shape-fits-requires c κs = search needs
+
+blank-with-requires : tie.Need-blank-with-requires
 blank-with-requires c κs = search needs
 
-loop-holds : tie.Need-loop-holds Inv-loop μ-loop
-loop-holds c = left-start (c .before .before .args .raw .now) (c .blank-with .result) (c .blank-with .ensures)
+returns : tie.Need-returns
+returns c = c .blank-with .ensures ∙ end-shape (c .before .before .before .before .before .before .args .raw .now) (c .before .before .before .before .walk-lines .result) (c .before .before .before .before .walk-lines .ensures) (c .before .before .before .holds-text .result) (c .before .before .before .holds-text .ensures) (c .before .before .shape-fits .ensures) (not-true _ (c .before .if1 .taken))
 
-line-end-requires : tie.Need-line-end-requires Inv-loop μ-loop
-line-end-requires c κs = search needs
+keys-differ-requires : tie.Need-keys-differ-requires
+keys-differ-requires c κs = search needs
 
-blank-with-requires-2 : tie.Need-blank-with-requires-2 Inv-loop μ-loop
+blank-with-requires-2 : tie.Need-blank-with-requires-2
 blank-with-requires-2 c κs = search needs
 
-returns : tie.Need-returns Inv-loop μ-loop
-returns c = c .blank-with2 .ensures ∙ left-open (c .before .before .before .before .before .before .before .args .raw .now) (c .before .before .before .before .loop .at) (c .before .before .line-end .result) (c .before .before .before .before .loop .d) (c .before .before .before .before .loop .inv) (c .before .before .line-end .ensures) (c .before .before .before .loop-test .taken) (c .before .if1 .taken)
+returns-2 : tie.Need-returns-2
+returns-2 c = c .blank-with2 .ensures ∙ end-keys (c .before .before .before .before .before .before .before .before .args .raw .now) (c .before .before .before .before .before .before .walk-lines .result) (c .before .before .before .before .before .before .walk-lines .ensures) (c .before .before .before .before .before .holds-text .result) (c .before .before .before .before .before .holds-text .ensures) (c .before .before .before .before .shape-fits .ensures) (not-false _ (c .before .before .before .if1 .left)) (c .before .before .keys-differ .ensures) (not-true _ (c .before .if2 .taken))
 
-sub-step-on : tie.Need-sub-step-on Inv-loop μ-loop
-sub-step-on c = search needs
+tell-requires : tie.Need-tell-requires
+tell-requires c κs = search needs
 
-part-step-on-start : tie.Need-part-step-on-start Inv-loop μ-loop
-part-step-on-start c = search needs
-
-part-step-on-end : tie.Need-part-step-on-end Inv-loop μ-loop
-part-step-on-end c = search needs
-
-step-on-requires : tie.Need-step-on-requires Inv-loop μ-loop
-step-on-requires c κs = search needs
-
-add-at : tie.Need-add-at Inv-loop μ-loop
-add-at c = search needs
-
-loop-less : tie.Need-loop-less Inv-loop μ-loop
-loop-less c = search needs
-
-loop-again : tie.Need-loop-again Inv-loop μ-loop
-loop-again c = left-more (c .before .before .before .before .before .before .before .before .args .raw .now) (c .before .before .before .before .before .loop .at) (c .before .before .before .line-end .result) (c .before .before .before .before .before .loop .d) (c .before .before .before .before .before .loop .inv) (c .before .before .before .line-end .ensures) (c .before .before .if1 .left) refl (c .step-on .ensures)
-
-finish-requires : tie.Need-finish-requires Inv-loop μ-loop
-finish-requires c κs = left-closed (c .before .before .before .before .args .raw .now) (c .before .loop .at) (c .before .loop .d) (c .before .loop .inv) (c .loop-test .left)
-
-returns-2 : tie.Need-returns-2 Inv-loop μ-loop
-returns-2 c = c .finish .ensures ∙ left-end (c .before .before .before .before .before .args .raw .now) (c .before .before .loop .at) (c .before .before .loop .d) (c .before .before .loop .inv) (c .before .loop-test .left)
+returns-3 : tie.Need-returns-3
+returns-3 c = c .tell .ensures ∙ end-good (c .before .before .before .before .before .before .before .before .args .raw .now) (c .before .before .before .before .before .before .walk-lines .result) (c .before .before .before .before .before .before .walk-lines .ensures) (c .before .before .before .before .before .holds-text .result) (c .before .before .before .before .before .holds-text .ensures) (c .before .before .before .before .shape-fits .ensures) (not-false _ (c .before .before .before .if1 .left)) (c .before .before .keys-differ .ensures) (not-false _ (c .before .if2 .left))
 
 pub describe-spec : {M : Type 1} → statement M
 describe-spec =
     tie.close
     (tie.spec
-    Inv-loop
-    μ-loop
+    walk-lines-requires
+    holds-text-requires
+    shape-fits-requires
     blank-with-requires
-    loop-holds
-    line-end-requires
-    blank-with-requires-2
     returns
-    sub-step-on
-    part-step-on-start
-    part-step-on-end
-    step-on-requires
-    add-at
-    loop-less
-    loop-again
-    finish-requires
-    returns-2)
+    keys-differ-requires
+    blank-with-requires-2
+    returns-2
+    tell-requires
+    returns-3)

@@ -8,7 +8,8 @@ use native.Mathlib.Omega.{arith}
 use borrow.Author.Needs.{needs}
 use Rattle.definition.specs.Event.{legible}
 use Rattle.lines.specs.Parts.{orNothing, part}
-use Rattle.event.specs.Walk.{read, noPair, pairKeys, isAmong}
+use Rattle.parts.specs.Parts.{noPair}
+use Rattle.event.specs.Described.{read, pairKeys, isAmong}
 use Rattle.event.proofs.KeyLaws.{keysFrom, among-more, among-stop, among-none, among-past}
 use Rattle.event.proofs.key_repeats.Statement.{statement}
 use Rattle.event.proofs.key_repeats.Tie as tie
@@ -36,7 +37,7 @@ loop-holds c = (search needs, refl)
 
 returns : tie.Need-returns Inv-loop μ-loop
 unfolding read part
-returns c = among-past (c .before .before .before .before .before .before .before .args .raw .now) (c .before .before .before .before .before .before .before .args .d .pairs) (c .before .before .before .before .before .before .before .args .d .count) (c .before .before .loop .j) (orNothing (legible (c .before .before .before .part-of .result .now))) (c .if1 .taken) ∙ c .before .before .loop .inv .1 ∙ ap (λ (x : List ℕ). isAmong (orNothing (legible x)) (keysFrom (c .before .before .before .before .before .before .before .args .raw .now) (c .before .before .before .before .before .before .before .args .d .pairs) (c .before .before .before .before .before .before .before .args .d .count) (c .before .before .before .before .before .before .before .args .i + 1))) (c .before .before .before .part-of .ensures)
+returns c = among-past (c .before .before .before .before .before .before .before .args .raw .now) (c .before .before .before .before .before .before .before .args .w .pairs) (c .before .before .before .before .before .before .before .args .w .count) (c .before .before .loop .j) (orNothing (legible (c .before .before .before .part-of .result .now))) (c .if1 .taken) ∙ c .before .before .loop .inv .1 ∙ ap (λ (x : List ℕ). isAmong (orNothing (legible x)) (keysFrom (c .before .before .before .before .before .before .before .args .raw .now) (c .before .before .before .before .before .before .before .args .w .pairs) (c .before .before .before .before .before .before .before .args .w .count) (c .before .before .before .before .before .before .before .args .i + 1))) (c .before .before .before .part-of .ensures)
 
 mul-q : tie.Need-mul-q Inv-loop μ-loop
 mul-q c = search needs
@@ -53,7 +54,7 @@ same-text-requires c κs = search needs
 returns-2 : tie.Need-returns-2 Inv-loop μ-loop
 unfolding read part
 returns-2 c =
-    among-stop (c .before .before .before .before .before .before .before .before .before .before .before .args .raw .now) (c .before .before .before .before .before .before .before .before .before .before .before .args .d .pairs) (c .before .before .before .before .before .before .before .before .before .before .before .args .d .count) (c .before .before .before .before .before .before .loop .j) (orNothing (legible (c .before .before .before .before .before .before .before .part-of .result .now))) (c .before .before .before .before .if1 .left) (omega (arith, simp length-map at (c .before .before .before .before .before .before .before .before .before .before .before .good .1 .0 .1 .1 .1 .1 .1 .1 .1 .1 .0 .1 .0 .1))) (ap (λ (x : List ℕ). same (orNothing (legible x)) (orNothing (legible (c .before .before .before .before .before .before .before .part-of .result .now)))) (sym (c .before .before .part-of2 .ensures)) ∙ sym (c .before .same-text .ensures) ∙ c .if2 .taken) ∙ c .before .before .before .before .before .before .loop .inv .1 ∙ ap (λ (x : List ℕ). isAmong (orNothing (legible x)) (keysFrom (c .before .before .before .before .before .before .before .before .before .before .before .args .raw .now) (c .before .before .before .before .before .before .before .before .before .before .before .args .d .pairs) (c .before .before .before .before .before .before .before .before .before .before .before .args .d .count) (c .before .before .before .before .before .before .before .before .before .before .before .args .i + 1))) (c .before .before .before .before .before .before .before .part-of .ensures)
+    among-stop (c .before .before .before .before .before .before .before .before .before .before .before .args .raw .now) (c .before .before .before .before .before .before .before .before .before .before .before .args .w .pairs) (c .before .before .before .before .before .before .before .before .before .before .before .args .w .count) (c .before .before .before .before .before .before .loop .j) (orNothing (legible (c .before .before .before .before .before .before .before .part-of .result .now))) (c .before .before .before .before .if1 .left) (omega (arith, simp length-map at (c .before .before .before .before .before .before .before .before .before .before .before .good .1 .0 .1 .1 .1 .1 .1 .1 .1 .1 .1 .0 .1 .0 .1))) (ap (λ (x : List ℕ). same (orNothing (legible x)) (orNothing (legible (c .before .before .before .before .before .before .before .part-of .result .now)))) (sym (c .before .before .part-of2 .ensures)) ∙ sym (c .before .same-text .ensures) ∙ c .if2 .taken) ∙ c .before .before .before .before .before .before .loop .inv .1 ∙ ap (λ (x : List ℕ). isAmong (orNothing (legible x)) (keysFrom (c .before .before .before .before .before .before .before .before .before .before .before .args .raw .now) (c .before .before .before .before .before .before .before .before .before .before .before .args .w .pairs) (c .before .before .before .before .before .before .before .before .before .before .before .args .w .count) (c .before .before .before .before .before .before .before .before .before .before .before .args .i + 1))) (c .before .before .before .before .before .before .before .part-of .ensures)
 
 add-j-2 : tie.Need-add-j-2 Inv-loop μ-loop
 add-j-2 c = search needs
@@ -64,11 +65,11 @@ loop-less c = search needs
 loop-again : tie.Need-loop-again Inv-loop μ-loop
 unfolding read part
 loop-again c =
-    (search needs, among-more (c .before .before .before .before .before .before .before .before .before .before .before .args .raw .now) (c .before .before .before .before .before .before .before .before .before .before .before .args .d .pairs) (c .before .before .before .before .before .before .before .before .before .before .before .args .d .count) (c .before .before .before .before .before .before .loop .j) (orNothing (legible (c .before .before .before .before .before .before .before .part-of .result .now))) (c .before .before .before .before .if1 .left) (omega (arith, simp length-map at (c .before .before .before .before .before .before .before .before .before .before .before .good .1 .0 .1 .1 .1 .1 .1 .1 .1 .1 .0 .1 .0 .1))) (ap (λ (x : List ℕ). same (orNothing (legible x)) (orNothing (legible (c .before .before .before .before .before .before .before .part-of .result .now)))) (sym (c .before .before .part-of2 .ensures)) ∙ sym (c .before .same-text .ensures) ∙ c .if2 .left) ∙ c .before .before .before .before .before .before .loop .inv .1)
+    (search needs, among-more (c .before .before .before .before .before .before .before .before .before .before .before .args .raw .now) (c .before .before .before .before .before .before .before .before .before .before .before .args .w .pairs) (c .before .before .before .before .before .before .before .before .before .before .before .args .w .count) (c .before .before .before .before .before .before .loop .j) (orNothing (legible (c .before .before .before .before .before .before .before .part-of .result .now))) (c .before .before .before .before .if1 .left) (omega (arith, simp length-map at (c .before .before .before .before .before .before .before .before .before .before .before .good .1 .0 .1 .1 .1 .1 .1 .1 .1 .1 .1 .0 .1 .0 .1))) (ap (λ (x : List ℕ). same (orNothing (legible x)) (orNothing (legible (c .before .before .before .before .before .before .before .part-of .result .now)))) (sym (c .before .before .part-of2 .ensures)) ∙ sym (c .before .same-text .ensures) ∙ c .if2 .left) ∙ c .before .before .before .before .before .before .loop .inv .1)
 
 returns-3 : tie.Need-returns-3 Inv-loop μ-loop
 unfolding read part
-returns-3 c = among-none (c .before .before .before .before .before .before .args .raw .now) (c .before .before .before .before .before .before .args .d .pairs) (c .before .before .before .before .before .before .args .d .count) (c .before .loop .j) (orNothing (legible (c .before .before .part-of .result .now))) (omega (arith, simp length-map at (c .before .before .before .before .before .before .good .1 .0 .1 .1 .1 .1 .1 .1 .1 .1 .0 .1 .0 .1))) ∙ c .before .loop .inv .1 ∙ ap (λ (x : List ℕ). isAmong (orNothing (legible x)) (keysFrom (c .before .before .before .before .before .before .args .raw .now) (c .before .before .before .before .before .before .args .d .pairs) (c .before .before .before .before .before .before .args .d .count) (c .before .before .before .before .before .before .args .i + 1))) (c .before .before .part-of .ensures)
+returns-3 c = among-none (c .before .before .before .before .before .before .args .raw .now) (c .before .before .before .before .before .before .args .w .pairs) (c .before .before .before .before .before .before .args .w .count) (c .before .loop .j) (orNothing (legible (c .before .before .part-of .result .now))) (omega (arith, simp length-map at (c .before .before .before .before .before .before .good .1 .0 .1 .1 .1 .1 .1 .1 .1 .1 .1 .0 .1 .0 .1))) ∙ c .before .loop .inv .1 ∙ ap (λ (x : List ℕ). isAmong (orNothing (legible x)) (keysFrom (c .before .before .before .before .before .before .args .raw .now) (c .before .before .before .before .before .before .args .w .pairs) (c .before .before .before .before .before .before .args .w .count) (c .before .before .before .before .before .before .args .i + 1))) (c .before .before .part-of .ensures)
 
 pub key-repeats-spec : {M : Type 1} → statement M
 key-repeats-spec =

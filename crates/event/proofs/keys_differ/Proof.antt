@@ -4,28 +4,29 @@ use mathlib.Core.Path.{_≡_, refl, sym, ap, _∙_}
 use lib.ListN.{length, getD, take, drop}
 use native.Mathlib.Omega.{arith}
 use borrow.Author.Needs.{needs}
-use Rattle.event.specs.Walk.{read, noPair, pairKeys, isAmong, allDiffer}
+use Rattle.parts.specs.Parts.{noPair}
+use Rattle.event.specs.Described.{read, pairKeys, isAmong, allDiffer}
 use Rattle.event.proofs.KeyLaws.{keysFrom, differ-more, differ-stop, differ-none, differ-past}
 use Rattle.event.proofs.keys_differ.Statement.{statement}
 use Rattle.event.proofs.keys_differ.Tie as tie
 
 abbrev Inv-loop : tie.InvT-loop
-Inv-loop raw d count i₀ i = allDiffer (keysFrom raw (d .pairs) (d .count) i) ≡ allDiffer (pairKeys raw (take (d .count) (d .pairs)))
+Inv-loop raw w count i₀ i = allDiffer (keysFrom raw (w .pairs) (w .count) i) ≡ allDiffer (pairKeys raw (take (w .count) (w .pairs)))
 
 abbrev μ-loop : tie.MeasureT-loop
-μ-loop raw d count i₀ i = 16 - i
+μ-loop raw w count i₀ i = 16 - i
 
 loop-holds : tie.Need-loop-holds Inv-loop μ-loop
 loop-holds c = refl
 
 returns : tie.Need-returns Inv-loop μ-loop
-returns c = differ-past (c .before .before .before .before .args .raw .now) (c .before .before .before .before .args .d .pairs) (c .before .before .before .before .args .d .count) (c .before .before .loop .i) (c .if1 .taken) ∙ c .before .before .loop .inv
+returns c = differ-past (c .before .before .before .before .args .raw .now) (c .before .before .before .before .args .w .pairs) (c .before .before .before .before .args .w .count) (c .before .before .loop .i) (c .if1 .taken) ∙ c .before .before .loop .inv
 
 key-repeats-requires : tie.Need-key-repeats-requires Inv-loop μ-loop
 key-repeats-requires c κs = search needs
 
 returns-2 : tie.Need-returns-2 Inv-loop μ-loop
-returns-2 c = differ-stop (c .before .before .before .before .before .before .args .raw .now) (c .before .before .before .before .before .before .args .d .pairs) (c .before .before .before .before .before .before .args .d .count) (c .before .before .before .before .loop .i) (c .before .before .if1 .left) (omega (arith, simp length-map at (c .before .before .before .before .before .before .good .1 .0 .1 .1 .1 .1 .1 .1 .1 .1 .0 .1 .0 .1))) (sym (c .before .key-repeats .ensures) ∙ c .if2 .taken) ∙ c .before .before .before .before .loop .inv
+returns-2 c = differ-stop (c .before .before .before .before .before .before .args .raw .now) (c .before .before .before .before .before .before .args .w .pairs) (c .before .before .before .before .before .before .args .w .count) (c .before .before .before .before .loop .i) (c .before .before .if1 .left) (omega (arith, simp length-map at (c .before .before .before .before .before .before .good .1 .0 .1 .1 .1 .1 .1 .1 .1 .1 .1 .0 .1 .0 .1))) (sym (c .before .key-repeats .ensures) ∙ c .if2 .taken) ∙ c .before .before .before .before .loop .inv
 
 add-i : tie.Need-add-i Inv-loop μ-loop
 add-i c = search needs
@@ -34,10 +35,10 @@ loop-less : tie.Need-loop-less Inv-loop μ-loop
 loop-less c = search needs
 
 loop-again : tie.Need-loop-again Inv-loop μ-loop
-loop-again c = differ-more (c .before .before .before .before .before .before .args .raw .now) (c .before .before .before .before .before .before .args .d .pairs) (c .before .before .before .before .before .before .args .d .count) (c .before .before .before .before .loop .i) (c .before .before .if1 .left) (omega (arith, simp length-map at (c .before .before .before .before .before .before .good .1 .0 .1 .1 .1 .1 .1 .1 .1 .1 .0 .1 .0 .1))) (sym (c .before .key-repeats .ensures) ∙ c .if2 .left) ∙ c .before .before .before .before .loop .inv
+loop-again c = differ-more (c .before .before .before .before .before .before .args .raw .now) (c .before .before .before .before .before .before .args .w .pairs) (c .before .before .before .before .before .before .args .w .count) (c .before .before .before .before .loop .i) (c .before .before .if1 .left) (omega (arith, simp length-map at (c .before .before .before .before .before .before .good .1 .0 .1 .1 .1 .1 .1 .1 .1 .1 .1 .0 .1 .0 .1))) (sym (c .before .key-repeats .ensures) ∙ c .if2 .left) ∙ c .before .before .before .before .loop .inv
 
 returns-3 : tie.Need-returns-3 Inv-loop μ-loop
-returns-3 c = differ-none (c .before .before .before .args .raw .now) (c .before .before .before .args .d .pairs) (c .before .before .before .args .d .count) (c .before .loop .i) (omega (arith, simp length-map at (c .before .before .before .good .1 .0 .1 .1 .1 .1 .1 .1 .1 .1 .0 .1 .0 .1))) ∙ c .before .loop .inv
+returns-3 c = differ-none (c .before .before .before .args .raw .now) (c .before .before .before .args .w .pairs) (c .before .before .before .args .w .count) (c .before .loop .i) (omega (arith, simp length-map at (c .before .before .before .good .1 .0 .1 .1 .1 .1 .1 .1 .1 .1 .1 .0 .1 .0 .1))) ∙ c .before .loop .inv
 
 pub keys-differ-spec : {M : Type 1} → statement M
 keys-differ-spec =

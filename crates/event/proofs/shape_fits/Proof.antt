@@ -1,5 +1,5 @@
-use Rattle.event.specs.Walk.{shapeFits}
-use Rattle.event.proofs.CodeLaws.{shape-at, shape-none}
+use Rattle.event.specs.Described.{shapeFits}
+use Rattle.event.proofs.DescribeLaws.{shape-at, shape-none}
 use lib.ListN.{length, getD, drop}
 use borrow.Author.Needs.{needs}
 use native.Mathlib.Omega.{arith}

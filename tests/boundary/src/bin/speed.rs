@@ -1,15 +1,15 @@
-//! `speed FILE ROUNDS`: a stream cut into events and lines, each line's escapes and length read, elements and keys looked up and words counted, by the proved
-//! leaves and by Rust code that counts the same; and the judge's own parser, which makes strings of what it reads. The three take turns in one run, so that
-//! what else the machine does falls on all; medians are printed. Nothing is cleared between rounds.
+//! `speed FILE ROUNDS`: the proved functions beside Rust, in one run.
+//! First the leaves: a stream cut into events and lines, each line's escapes and length read, elements and keys looked up and words counted, beside Rust code
+//! that counts the same. Then `describe`: every event taken apart, its values and its text unescaped into a buffer, beside the judge's own parser, which makes
+//! strings of them. All take turns, so that what else the machine does falls on all; medians are printed. Nothing is cleared between rounds.
 
+use boundary::described::{expected_tally, tally};
 use boundary::{counts, expected};
 use std::hint::black_box;
 use std::process::ExitCode;
 use std::time::Instant;
 
-fn parsed(stream: &[u8]) -> usize {
-    rufsm::event::split(stream).into_iter().filter(|raw| rufsm::event::parse(raw).is_ok()).count()
-}
+const NAMES: [&str; 4] = ["leaves, proved", "the same counts in Rust", "describe and unescape, proved", "the judge's parser"];
 
 fn seconds(work: impl FnOnce()) -> f64 {
     let begin = Instant::now();
@@ -17,16 +17,17 @@ fn seconds(work: impl FnOnce()) -> f64 {
     begin.elapsed().as_secs_f64()
 }
 
-/// One round: the time of each of the three.
-fn round(stream: &[u8]) -> [f64; 3] {
+/// One round: the time of each of the four.
+fn round(stream: &[u8]) -> [f64; 4] {
     [
         seconds(|| _ = black_box(counts(black_box(stream)))),
         seconds(|| _ = black_box(expected(black_box(stream)))),
-        seconds(|| _ = black_box(parsed(black_box(stream)))),
+        seconds(|| _ = black_box(tally(black_box(stream)))),
+        seconds(|| _ = black_box(expected_tally(black_box(stream)))),
     ]
 }
 
-fn median(rounds: &[[f64; 3]], which: usize) -> f64 {
+fn median(rounds: &[[f64; 4]], which: usize) -> f64 {
     let mut times: Vec<f64> = rounds.iter().map(|round| round[which]).collect();
     times.sort_by(f64::total_cmp);
     times[times.len() / 2]
@@ -42,12 +43,13 @@ fn main() -> ExitCode {
         eprintln!("speed: {file} can't be read, or {rounds} is no number");
         return ExitCode::FAILURE;
     };
-    let rounds: Vec<[f64; 3]> = (0..count.max(1)).map(|_| round(&stream)).collect();
-    let ours = median(&rounds, 0);
+    let rounds: Vec<[f64; 4]> = (0..count.max(1)).map(|_| round(&stream)).collect();
     println!("bytes={} rounds={}", stream.len(), rounds.len());
-    for (which, name) in ["proved leaves", "the same counts in Rust", "the judge's parser"].iter().enumerate() {
-        let time = median(&rounds, which);
-        println!("{name}: {:.1} MB/s, proved leaves are {:.2} times as fast", stream.len() as f64 / 1e6 / time, time / ours);
+    for (which, name) in NAMES.iter().enumerate() {
+        println!("{name}: {:.1} MB/s", stream.len() as f64 / 1e6 / median(&rounds, which));
+    }
+    for ours in [0, 2] {
+        println!("{} is {:.2} times as fast as {}", NAMES[ours], median(&rounds, ours + 1) / median(&rounds, ours), NAMES[ours + 1]);
     }
     ExitCode::SUCCESS
 }

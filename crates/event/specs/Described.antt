@@ -1,0 +1,90 @@
+-- An event's bytes taken apart: what the walk over its lines has brought, if the event is in form and its keys are different.
+use Prim.Native.Nat.{ℕ, zero, suc}
+use mathlib.Core.Bool.{Bool, true, false, _&&_, not}
+use mathlib.Core.List.{List, [], _∷_}
+use lib.ListN.{take, replicate}
+use lib.Dec.{eqb}
+use Rattle.definition.specs.Text.{same}
+use Rattle.definition.specs.Elements.{holdsText}
+use Rattle.definition.specs.Event.{legible}
+use Rattle.lines.specs.Parts.{part, orNothing}
+use Rattle.parts.specs.declared.Part.{Part}
+use Rattle.parts.specs.declared.Pair.{Pair}
+use Rattle.parts.specs.declared.Walked.{Walked}
+use Rattle.parts.specs.Parts.{partAt, noPair}
+use Rattle.walk.specs.Walk.{walked}
+use Rattle.event.specs.declared.Described.{Described}
+
+-- Refused: the number of the question that is answered no, and zeros.
+unfoldable pub blank : ℕ → Described
+blank n =
+    record {
+      number = n;
+      kind = 0;
+      tag = 0;
+      name = partAt 0 0 0;
+      count = 0;
+      pairs = replicate 16 noPair;
+      text = partAt 0 0 0;
+    }
+
+unfoldable pub told : Walked → Described
+told w =
+    record {
+      number = 0;
+      kind = w .kind;
+      tag = w .tag;
+      name = w .name;
+      count = w .count;
+      pairs = w .pairs;
+      text = w .text;
+    }
+
+-- ---- question 3
+
+-- The kind fits what came: `whole` a text and an element that holds one, `open` none that does, `end` no pairs. `next` is 4 after a text and 2 without one.
+unfoldable pub shapeFits : ℕ → ℕ → ℕ → Bool → Bool
+shapeFits zero next count holds = eqb next 2 && not holds
+shapeFits (suc zero) next count holds = eqb next 2
+shapeFits (suc (suc zero)) next count holds = eqb next 4 && holds
+shapeFits (suc (suc (suc zero))) next count holds = eqb next 2 && eqb count 0
+shapeFits (suc (suc (suc (suc k)))) next count holds = false
+
+unfoldable pub inShape : Walked → Bool
+unfolding shapeFits holdsText
+inShape w = shapeFits (w .kind) (w .next) (w .count) (holdsText (w .tag))
+
+-- ---- question 4
+
+unfoldable pub read : List ℕ → Part → List ℕ
+unfolding part orNothing legible
+read raw p = orNothing (legible (part raw (p .at) (p .len)))
+
+unfoldable pub pairKeys : List ℕ → List Pair → List (List ℕ)
+unfolding read
+pairKeys raw [] = []
+pairKeys raw (p ∷ ps) = read raw (p .key) ∷ pairKeys raw ps
+
+unfoldable pub isAmong : List ℕ → List (List ℕ) → Bool
+unfolding same
+isAmong k [] = false
+isAmong k (j ∷ js) = elim (same j k) [ true ↦ true | false ↦ isAmong k js ]
+
+unfoldable pub allDiffer : List (List ℕ) → Bool
+unfolding isAmong
+allDiffer [] = true
+allDiffer (k ∷ ks) = elim (isAmong k ks) [ true ↦ false | false ↦ allDiffer ks ]
+
+-- ---- the description
+
+unfoldable pub finished : List ℕ → Walked → Described
+unfolding told blank inShape allDiffer pairKeys
+finished raw w =
+    elim (inShape w) [
+      | true ↦ elim (allDiffer (pairKeys raw (take (w .count) (w .pairs)))) [ true ↦ told w | false ↦ blank 4 ]
+      | false ↦ blank 3
+    ]
+
+unfoldable pub described : List ℕ → Described
+unfolding finished walked
+described raw = finished raw (walked raw)

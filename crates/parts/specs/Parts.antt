@@ -1,0 +1,140 @@
+-- What an event's lines have brought: each part by where it is written, and the numbers of its element and keys.
+use Prim.Native.Nat.{ℕ, _+_}
+use mathlib.Core.Bool.{Bool, true, false, _&&_}
+use mathlib.Core.List.{List}
+use lib.ListN.{length, set, replicate}
+use lib.Dec.{leb, ltb}
+use Rattle.definition.specs.Limits.{limits01}
+use Rattle.lines.specs.declared.Scan.{Scan}
+use Rattle.lines.specs.Escapes.{scanned}
+use Rattle.parts.specs.declared.Part.{Part}
+use Rattle.parts.specs.declared.Pair.{Pair}
+use Rattle.parts.specs.declared.Walked.{Walked}
+use Rattle.parts.specs.declared.Found.{Found}
+
+abbrev pub partAt : ℕ → ℕ → ℕ → Part
+partAt at len size = record { at = at; len = len; size = size }
+
+abbrev pub noPair : Pair
+noPair = record { code = 0; key = partAt 0 0 0; value = partAt 0 0 0 }
+
+-- `next` says which line may come: 0 `event=`, 1 `name=`, 2 `key=`, `text=` or none, 3 `value=`, 4 none; 5: the event is out of form.
+unfoldable pub begun : Walked
+begun =
+    record {
+      next = 0;
+      kind = 0;
+      tag = 0;
+      name = partAt 0 0 0;
+      code = 0;
+      key = partAt 0 0 0;
+      count = 0;
+      pairs = replicate 16 noPair;
+      text = partAt 0 0 0;
+    }
+
+-- After a line that is out of form, and with a part more.
+unfoldable pub broken : Walked → Walked
+broken d =
+    record {
+      next = 5;
+      kind = d .kind;
+      tag = d .tag;
+      name = d .name;
+      code = d .code;
+      key = d .key;
+      count = d .count;
+      pairs = d .pairs;
+      text = d .text;
+    }
+
+unfoldable pub withKind : ℕ → Walked → Walked
+withKind k d =
+    record {
+      next = 1;
+      kind = k;
+      tag = d .tag;
+      name = d .name;
+      code = d .code;
+      key = d .key;
+      count = d .count;
+      pairs = d .pairs;
+      text = d .text;
+    }
+
+unfoldable pub withName : ℕ → Part → Walked → Walked
+withName g p d =
+    record {
+      next = 2;
+      kind = d .kind;
+      tag = g;
+      name = p;
+      code = d .code;
+      key = d .key;
+      count = d .count;
+      pairs = d .pairs;
+      text = d .text;
+    }
+
+unfoldable pub withKey : ℕ → Part → Walked → Walked
+withKey c p d =
+    record {
+      next = 3;
+      kind = d .kind;
+      tag = d .tag;
+      name = d .name;
+      code = c;
+      key = p;
+      count = d .count;
+      pairs = d .pairs;
+      text = d .text;
+    }
+
+unfoldable pub withValue : Part → Walked → Walked
+withValue p d =
+    record {
+      next = 2;
+      kind = d .kind;
+      tag = d .tag;
+      name = d .name;
+      code = d .code;
+      key = d .key;
+      count = d .count + 1;
+      pairs = set (d .pairs) (d .count) (record { code = d .code; key = d .key; value = p });
+      text = d .text;
+    }
+
+unfoldable pub withText : Part → Walked → Walked
+withText p d =
+    record {
+      next = 4;
+      kind = d .kind;
+      tag = d .tag;
+      name = d .name;
+      code = d .code;
+      key = d .key;
+      count = d .count;
+      pairs = d .pairs;
+      text = p;
+    }
+
+-- Whether what was scanned is legible and of a length within the limits.
+unfoldable pub fits : ℕ → ℕ → Scan → Bool
+fits low high s = s .ok && leb low (s .len) && leb (s .len) high
+
+-- What is written at a place, measured.
+unfoldable pub written : ℕ → List ℕ → Part
+unfolding scanned
+written at x = partAt at (length x) (scanned x .len)
+
+unfoldable pub found : ℕ → ℕ → ℕ → List ℕ → Found
+unfolding fits scanned written
+found low high at x = record { ok = fits low high (scanned x); part = written at x }
+
+-- "16 attributes."
+unfoldable pub roomLeft : ℕ → Bool
+roomLeft count = ltb count (limits01 .attributes)
+
+unfoldable pub addedValue : Part → Walked → Walked
+unfolding roomLeft withValue broken
+addedValue p d = elim (roomLeft (d .count)) [ true ↦ withValue p d | false ↦ broken d ]

@@ -1,0 +1,18 @@
+-- A description's attributes by place.
+use Prim.Native.Nat.{ℕ, _≤_}
+use mathlib.Core.Path.{_≡_, refl, sym, ap, _∙_}
+use lib.ListN.{length, getD, List·getD-eq-default}
+use native.Mathlib.Omega.{arith}
+use Rattle.parts.specs.declared.Pair.{Pair}
+use Rattle.parts.specs.Parts.{noPair}
+use Rattle.event.specs.declared.Described.{Described}
+use Rattle.shown.specs.declared.Attribute.{Attribute}
+use Rattle.shown.specs.Shown.{attributeOf, attributeAt}
+
+module _ (d e : Described) (q : d ≡ e) (i : ℕ) where
+  pub at-place : attributeOf (getD (d .pairs) i noPair) ≡ attributeAt e i
+  unfolding attributeAt
+  at-place = ap (λ (x : Described). attributeOf (getD (x .pairs) i noPair)) q
+
+  pub past-end : length (d .pairs) ≤ i → attributeOf noPair ≡ attributeAt e i
+  past-end h = ap attributeOf (sym (List·getD-eq-default (d .pairs) noPair h)) ∙ at-place

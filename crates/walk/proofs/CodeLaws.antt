@@ -1,0 +1,178 @@
+-- What the functions need of the walk's definition.
+use Prim.Native.Nat.{ℕ, zero, suc, _+_, _≤_}
+use mathlib.Core.Path.{_≡_, refl, sym, ap, _∙_}
+use mathlib.Core.Bool.{Bool, true, false}
+use mathlib.Core.Option.{Option, none, some}
+use mathlib.Core.List.{List, _++_}
+use native.Mathlib.Omega.{arith}
+use lib.ListN.{length, drop, length-append}
+use lib.Seq.{drop-append-seam}
+use Rattle.definition.specs.Text.{str, placeIn}
+use Rattle.definition.specs.Elements.{tagOf, keyOf}
+use Rattle.definition.specs.Event as E
+use Rattle.definition.specs.Event.{Line, after, headed, lineOf, kindNames}
+use Rattle.definition.proofs.Base.{true-is-false}
+use Rattle.lines.specs.Lines.{hasHead}
+use Rattle.parts.specs.declared.Walked.{Walked}
+use Rattle.parts.specs.declared.Found.{Found}
+use Rattle.parts.specs.Parts as P
+use Rattle.parts.specs.Parts.{found, withKind, withName, withKey, withText, addedValue}
+use Rattle.walk.specs.Walk.{nameFits, keyFits, valueFits, textFits, onEvent, onName, onKey, onValue, step}
+use Rattle.walk.proofs.Standing.{after-split}
+
+-- ---- a line by its head
+
+head-split : (h l : List ℕ) → hasHead h l ≡ true → l ≡ h ++ drop (length h) l
+unfolding hasHead
+head-split h l e = go (after h l) refl
+  where
+    go : (o : Option (List ℕ)) → after h l ≡ o → l ≡ h ++ drop (length h) l
+    go none q = true-is-false (sym (rw (q, hasHead) at e))
+    go (some v) q =
+        let z : l ≡ h ++ v = after-split h l v q in
+        let y : drop (length h) l ≡ v = ap (drop (length h)) z ∙ drop-append-seam h v in
+        z ∙ ap (λ (x : List ℕ). h ++ x) (sym y)
+
+pub head-length : (h l : List ℕ) → hasHead h l ≡ true → length h ≤ length l
+head-length h l e = omega (arith, ap length (head-split h l e), length-append h (drop (length h) l))
+
+module _ (l : List ℕ) where
+  pub as-event : hasHead (str "event=") l ≡ true → lineOf l ≡ E.event (drop 6 l)
+  unfolding lineOf str
+  as-event e = ap lineOf (head-split (str "event=") l e)
+
+  pub as-name : hasHead (str "name=") l ≡ true → lineOf l ≡ E.name (drop 5 l)
+  unfolding lineOf str
+  as-name e = ap lineOf (head-split (str "name=") l e)
+
+  pub as-key : hasHead (str "key=") l ≡ true → lineOf l ≡ E.key (drop 4 l)
+  unfolding lineOf str
+  as-key e = ap lineOf (head-split (str "key=") l e)
+
+  pub as-value : hasHead (str "value=") l ≡ true → lineOf l ≡ E.value (drop 6 l)
+  unfolding lineOf str
+  as-value e = ap lineOf (head-split (str "value=") l e)
+
+  pub as-text : hasHead (str "text=") l ≡ true → lineOf l ≡ E.text (drop 5 l)
+  unfolding lineOf str
+  as-text e = ap lineOf (head-split (str "text=") l e)
+
+-- What holds of a line with no head holds of the line, if it holds of each head that the line may have.
+headed-of : (P : Line → Type 0) (h : List ℕ) (make : List ℕ → Line) (other : Line) (l : List ℕ) → ((v : List ℕ) → hasHead h l ≡ true → P (make v)) → P other → P (headed h make other l)
+unfolding headed hasHead
+headed-of P h make other l f g = go (after h l) refl
+  where
+    go : (o : Option (List ℕ)) → after h l ≡ o → P (headed h make other l)
+    go none q = rw (q, headed) g
+    go (some v) q = rw (q, headed) (f v (rw (q, hasHead)))
+
+line-of : (P : Line → Type 0) (l : List ℕ) → ((v : List ℕ) → hasHead (str "value=") l ≡ true → P (E.value v)) → ((v : List ℕ) → hasHead (str "key=") l ≡ true → P (E.key v))
+    → ((v : List ℕ) → hasHead (str "event=") l ≡ true → P (E.event v)) → ((v : List ℕ) → hasHead (str "name=") l ≡ true → P (E.name v))
+    → ((v : List ℕ) → hasHead (str "text=") l ≡ true → P (E.text v)) → P E.junk → P (lineOf l)
+unfolding lineOf
+line-of P l a b c d e f =
+    headed-of P (str "value=") E.value _ l a (headed-of P (str "key=") E.key _ l b (headed-of P (str "event=") E.event _ l c (headed-of P (str "name=") E.name _ l d (headed-of P (str "text=") E.text _ l e f))))
+
+never : {X : Type 0} {p : Bool} → p ≡ false → p ≡ true → X
+never e f = true-is-false (sym f ∙ e)
+
+module _ (l : List ℕ) (at : ℕ) (d : Walked) where
+  pub not-event : hasHead (str "event=") l ≡ false → P.broken d ≡ onEvent (lineOf l) d
+  unfolding onEvent
+  not-event e = line-of (λ (x : Line). P.broken d ≡ onEvent x d) l (λ v f. refl) (λ v f. refl) (λ v f. never e f) (λ v f. refl) (λ v f. refl) refl
+
+  pub not-name : hasHead (str "name=") l ≡ false → P.broken d ≡ onName at (lineOf l) d
+  unfolding onName
+  not-name e = line-of (λ (x : Line). P.broken d ≡ onName at x d) l (λ v f. refl) (λ v f. refl) (λ v f. refl) (λ v f. never e f) (λ v f. refl) refl
+
+  pub not-key : hasHead (str "text=") l ≡ false → hasHead (str "key=") l ≡ false → P.broken d ≡ onKey at (lineOf l) d
+  unfolding onKey
+  not-key g e = line-of (λ (x : Line). P.broken d ≡ onKey at x d) l (λ v f. refl) (λ v f. never e f) (λ v f. refl) (λ v f. refl) (λ v f. never g f) refl
+
+  pub not-value : hasHead (str "value=") l ≡ false → P.broken d ≡ onValue at (lineOf l) d
+  unfolding onValue
+  not-value e = line-of (λ (x : Line). P.broken d ≡ onValue at x d) l (λ v f. never e f) (λ v f. refl) (λ v f. refl) (λ v f. refl) (λ v f. refl) refl
+
+-- ---- a line in form, and one whose part is not within its limits
+
+module _ (l : List ℕ) (at : ℕ) (d : Walked) (x : List ℕ) (m : Found) where
+  module _ (e : hasHead (str "name=") l ≡ true) (ex : x ≡ drop 5 l) (em : m ≡ found 1 64 (at + 5) x) where
+    name-by : (p : Bool) → m .ok ≡ p → onName at (lineOf l) d ≡ elim p as (λ q. Walked) [ true ↦ withName (tagOf x) (m .part) d | false ↦ P.broken d ]
+    unfolding onName nameFits found
+    name-by p q = ap (λ (y : Line). onName at y d) (as-name l e ∙ ap E.name (sym ex)) ∙ go p (sym (ap (λ (y : Found). y .ok) em) ∙ q)
+      where
+        go : (p : Bool) → nameFits x ≡ p → onName at (E.name x) d ≡ elim p as (λ q. Walked) [ true ↦ withName (tagOf x) (m .part) d | false ↦ P.broken d ]
+        go true z = rw (z, onName) (ap (λ (y : Found). withName (tagOf x) (y .part) d) (sym em))
+        go false z = rw (z, onName)
+
+    pub name-good : (g : ℕ) → g ≡ tagOf x → m .ok ≡ true → withName g (m .part) d ≡ onName at (lineOf l) d
+    name-good g eg t = ap (λ (n : ℕ). withName n (m .part) d) eg ∙ sym (name-by true t)
+
+    pub name-bad : m .ok ≡ false → P.broken d ≡ onName at (lineOf l) d
+    name-bad t = sym (name-by false t)
+
+  module _ (e : hasHead (str "text=") l ≡ true) (ex : x ≡ drop 5 l) (em : m ≡ found 0 4096 (at + 5) x) where
+    text-by : (p : Bool) → m .ok ≡ p → onKey at (lineOf l) d ≡ elim p as (λ q. Walked) [ true ↦ withText (m .part) d | false ↦ P.broken d ]
+    unfolding onKey textFits found
+    text-by p q = ap (λ (y : Line). onKey at y d) (as-text l e ∙ ap E.text (sym ex)) ∙ go p (sym (ap (λ (y : Found). y .ok) em) ∙ q)
+      where
+        go : (p : Bool) → textFits x ≡ p → onKey at (E.text x) d ≡ elim p as (λ q. Walked) [ true ↦ withText (m .part) d | false ↦ P.broken d ]
+        go true z = rw (z, onKey) (ap (λ (y : Found). withText (y .part) d) (sym em))
+        go false z = rw (z, onKey)
+
+    pub text-good : m .ok ≡ true → withText (m .part) d ≡ onKey at (lineOf l) d
+    text-good t = sym (text-by true t)
+
+    pub text-bad : m .ok ≡ false → P.broken d ≡ onKey at (lineOf l) d
+    text-bad t = sym (text-by false t)
+
+  module _ (e : hasHead (str "key=") l ≡ true) (ex : x ≡ drop 4 l) (em : m ≡ found 1 64 (at + 4) x) where
+    key-by : (p : Bool) → m .ok ≡ p → onKey at (lineOf l) d ≡ elim p as (λ q. Walked) [ true ↦ withKey (keyOf x) (m .part) d | false ↦ P.broken d ]
+    unfolding onKey keyFits found
+    key-by p q = ap (λ (y : Line). onKey at y d) (as-key l e ∙ ap E.key (sym ex)) ∙ go p (sym (ap (λ (y : Found). y .ok) em) ∙ q)
+      where
+        go : (p : Bool) → keyFits x ≡ p → onKey at (E.key x) d ≡ elim p as (λ q. Walked) [ true ↦ withKey (keyOf x) (m .part) d | false ↦ P.broken d ]
+        go true z = rw (z, onKey) (ap (λ (y : Found). withKey (keyOf x) (y .part) d) (sym em))
+        go false z = rw (z, onKey)
+
+    pub key-good : (c : ℕ) → c ≡ keyOf x → m .ok ≡ true → withKey c (m .part) d ≡ onKey at (lineOf l) d
+    key-good c ec t = ap (λ (n : ℕ). withKey n (m .part) d) ec ∙ sym (key-by true t)
+
+    pub key-bad : m .ok ≡ false → P.broken d ≡ onKey at (lineOf l) d
+    key-bad t = sym (key-by false t)
+
+  module _ (e : hasHead (str "value=") l ≡ true) (ex : x ≡ drop 6 l) (em : m ≡ found 0 1024 (at + 6) x) where
+    value-by : (p : Bool) → m .ok ≡ p → onValue at (lineOf l) d ≡ elim p as (λ q. Walked) [ true ↦ addedValue (m .part) d | false ↦ P.broken d ]
+    unfolding onValue valueFits found
+    value-by p q = ap (λ (y : Line). onValue at y d) (as-value l e ∙ ap E.value (sym ex)) ∙ go p (sym (ap (λ (y : Found). y .ok) em) ∙ q)
+      where
+        go : (p : Bool) → valueFits x ≡ p → onValue at (E.value x) d ≡ elim p as (λ q. Walked) [ true ↦ addedValue (m .part) d | false ↦ P.broken d ]
+        go true z = rw (z, onValue) (ap (λ (y : Found). addedValue (y .part) d) (sym em))
+        go false z = rw (z, onValue)
+
+    pub value-good : m .ok ≡ true → addedValue (m .part) d ≡ onValue at (lineOf l) d
+    value-good t = sym (value-by true t)
+
+    pub value-bad : m .ok ≡ false → P.broken d ≡ onValue at (lineOf l) d
+    value-bad t = sym (value-by false t)
+
+pub event-good : (l : List ℕ) (d : Walked) (x : List ℕ) (k : ℕ) → hasHead (str "event=") l ≡ true → x ≡ drop 6 l → k ≡ placeIn kindNames x → withKind k d ≡ onEvent (lineOf l) d
+unfolding onEvent
+event-good l d x k e ex ek = ap (λ (n : ℕ). withKind n d) ek ∙ sym (ap (λ (q : Line). onEvent q d) (as-event l e ∙ ap E.event (sym ex)))
+
+-- ---- a step
+
+module _ (at : ℕ) (l : Line) (d : Walked) where
+  pub step-is : {r : Walked} (m : ℕ) → d .next ≡ m → r ≡ step m at l d → r ≡ step (d .next) at l d
+  step-is m e f = f ∙ ap (λ (k : ℕ). step k at l d) (sym e)
+
+  pub step-other : (d .next ≡ 0 → ⊥) → (d .next ≡ 1 → ⊥) → (d .next ≡ 2 → ⊥) → (d .next ≡ 3 → ⊥) → P.broken d ≡ step (d .next) at l d
+  unfolding step
+  step-other a b c e = go (d .next) a b c e
+    where
+      go : (m : ℕ) → (m ≡ 0 → ⊥) → (m ≡ 1 → ⊥) → (m ≡ 2 → ⊥) → (m ≡ 3 → ⊥) → P.broken d ≡ step m at l d
+      go zero a b c e = absurd (a refl)
+      go (suc zero) a b c e = absurd (b refl)
+      go (suc (suc zero)) a b c e = absurd (c refl)
+      go (suc (suc (suc zero))) a b c e = absurd (e refl)
+      go (suc (suc (suc (suc m)))) a b c e = refl

@@ -1,0 +1,150 @@
+-- Names of elements and keys have no byte that is escaped, so a number can be read off the bytes as they are written.
+use Prim.Native.Nat.{ℕ, zero, suc}
+use mathlib.Core.Path.{_≡_, refl, sym, ap, ap₂, _∙_, subst}
+use mathlib.Core.Bool.{Bool, true, false, _&&_, not}
+use mathlib.Core.Option.{Option, none, some}
+use mathlib.Core.List.{List, [], _∷_}
+use lib.ListN.{length}
+use lib.Dec.{eqb, ltb}
+use Rattle.definition.specs.Text.{same, placeIn, isAllowed, allAllowed}
+use Rattle.definition.specs.Elements.{elementNames, keyNames, numberIn, tagOf, keyOf}
+use Rattle.definition.specs.Event.{legible, unescapeFrom, prepend, ifAllowed}
+use Rattle.definition.proofs.Base.{true-is-false, none-is-some, some-inj, and-left, and-right, bool-ext, same-refl, same-eq}
+
+unfoldable isPlain : ℕ → Bool
+isPlain b = isAllowed b && not (eqb b 92) && not (eqb b 10)
+
+unfoldable allPlain : List ℕ → Bool
+unfolding isPlain
+allPlain [] = true
+allPlain (b ∷ bs) = elim (isPlain b) [ true ↦ allPlain bs | false ↦ false ]
+
+unfoldable eachPlain : List (List ℕ) → Bool
+unfolding allPlain
+eachPlain [] = true
+eachPlain (w ∷ ws) = elim (allPlain w) [ true ↦ eachPlain ws | false ↦ false ]
+
+record Plain (b : ℕ) (bs : List ℕ) : Type 0 where
+  allowed : isAllowed b ≡ true
+  no-backslash : eqb b 92 ≡ false
+  no-newline : eqb b 10 ≡ false
+  rest : allPlain bs ≡ true
+
+not-is : (p : Bool) → not p ≡ true → p ≡ false
+not-is true e = sym e
+not-is false e = refl
+
+plain-head : (b : ℕ) (bs : List ℕ) → allPlain (b ∷ bs) ≡ true → Plain b bs
+unfolding allPlain isPlain
+plain-head b bs e = go (isPlain b) refl
+  where
+    go : (p : Bool) → isPlain b ≡ p → Plain b bs
+    go true q =
+        let x : (isAllowed b && not (eqb b 92)) ≡ true = and-left (isAllowed b && not (eqb b 92)) (not (eqb b 10)) q in
+        record {
+          allowed = and-left (isAllowed b) (not (eqb b 92)) x;
+          no-backslash = not-is (eqb b 92) (and-right (isAllowed b) (not (eqb b 92)) x);
+          no-newline = not-is (eqb b 10) (and-right (isAllowed b && not (eqb b 92)) (not (eqb b 10)) q);
+          rest = rw (q, allPlain) at e;
+        }
+    go false q = true-is-false (sym (rw (q, allPlain) at e))
+
+-- ---- plain bytes are read as they are written
+
+unescaped-plain : (w : List ℕ) → allPlain w ≡ true → unescapeFrom false w ≡ some w
+unfolding unescapeFrom prepend
+unescaped-plain [] e = refl
+unescaped-plain (b ∷ bs) e = let p : Plain b bs = plain-head b bs e in rw (p .no-backslash, unescapeFrom) (ap (prepend b) (unescaped-plain bs (p .rest)))
+
+allowed-plain : (w : List ℕ) → allPlain w ≡ true → allAllowed w ≡ true
+unfolding allAllowed
+allowed-plain [] e = refl
+allowed-plain (b ∷ bs) e = let p : Plain b bs = plain-head b bs e in rw (p .allowed, allAllowed) (allowed-plain bs (p .rest))
+
+legible-plain : (w : List ℕ) → allPlain w ≡ true → legible w ≡ some w
+unfolding legible ifAllowed
+legible-plain w e = ap ifAllowed (unescaped-plain w e) ∙ rw (allowed-plain w e, ifAllowed)
+
+-- ---- and written in no other way
+
+prepended : (b : ℕ) (o : Option (List ℕ)) (w : List ℕ) → prepend b o ≡ some w → (v : List ℕ) × (o ≡ some v) × (b ∷ v ≡ w)
+unfolding prepend
+prepended b none w e = none-is-some w e
+prepended b (some v) w e = (v, refl, some-inj [] (b ∷ v) w e)
+
+first-is : (b c : ℕ) (v w : List ℕ) → b ∷ v ≡ c ∷ w → b ≡ c
+first-is b c v w e = cc
+
+rest-is : (b c : ℕ) (v w : List ℕ) → b ∷ v ≡ c ∷ w → v ≡ w
+rest-is b c v w e = cc
+
+written-plain : (w v : List ℕ) → allPlain w ≡ true → unescapeFrom false v ≡ some w → v ≡ w
+unfolding unescapeFrom
+written-plain w [] p e = some-inj [] [] w e
+written-plain w (b ∷ bs) p e = go (eqb b 92) refl (λ x. written-plain x bs)
+  where
+    -- An escape gives a byte that is not plain.
+    escape : (c : ℕ) (x : List ℕ) → allPlain (c ∷ x) ≡ true → (eqb c 10 ≡ true) → b ∷ bs ≡ w
+    escape c x p e = true-is-false (sym e ∙ plain-head c x p .no-newline)
+
+    backslash : (x : List ℕ) → allPlain (92 ∷ x) ≡ true → b ∷ bs ≡ w
+    backslash x p = true-is-false (plain-head 92 x p .no-backslash)
+
+    after : (cs : List ℕ) → unescapeFrom true cs ≡ some w → b ∷ bs ≡ w
+    after [] f = none-is-some w f
+    after (c ∷ cs) f = by-n (eqb c 110) refl
+      where
+        by-b : (q : Bool) → eqb c 92 ≡ q → eqb c 110 ≡ false → b ∷ bs ≡ w
+        by-b true q n = let z = prepended 92 (unescapeFrom false cs) w (rw (n, unescapeFrom, q, unescapeFrom) at f) in backslash (z .0) (subst (λ (x : List ℕ). allPlain x ≡ true) (sym (z .2)) p)
+        by-b false q n = none-is-some w (rw (n, unescapeFrom, q, unescapeFrom) at f)
+
+        by-n : (q : Bool) → eqb c 110 ≡ q → b ∷ bs ≡ w
+        by-n true q = let z = prepended 10 (unescapeFrom false cs) w (rw (q, unescapeFrom) at f) in escape 10 (z .0) (subst (λ (x : List ℕ). allPlain x ≡ true) (sym (z .2)) p) refl
+        by-n false q = by-b (eqb c 92) refl q
+
+    go : (q : Bool) → eqb b 92 ≡ q → ((x : List ℕ) → allPlain x ≡ true → unescapeFrom false bs ≡ some x → bs ≡ x) → b ∷ bs ≡ w
+    go true q ih = after bs (rw (q, unescapeFrom) at e)
+    go false q ih =
+        let z = prepended b (unescapeFrom false bs) w (rw (q, unescapeFrom) at e) in
+        let y : Plain b (z .0) = plain-head b (z .0) (subst (λ (x : List ℕ). allPlain x ≡ true) (sym (z .2)) p) in
+        ap (λ (x : List ℕ). b ∷ x) (ih (z .0) (y .rest) (z .1)) ∙ z .2
+
+unallowed : (o : Option (List ℕ)) (x : List ℕ) → ifAllowed o ≡ some x → o ≡ some x
+unfolding ifAllowed
+unallowed none x e = e
+unallowed (some v) x e = go (allAllowed v) refl
+  where
+    go : (p : Bool) → allAllowed v ≡ p → some v ≡ some x
+    go true q = rw (q, ifAllowed) at e
+    go false q = none-is-some x (rw (q, ifAllowed) at e)
+
+module _ (v x : List ℕ) (e : legible v ≡ some x) where
+  same-plain : (w : List ℕ) → allPlain w ≡ true → same w v ≡ same w x
+  unfolding legible
+  same-plain w p =
+      bool-ext (same w v) (same w x)
+      (λ f. let z : w ≡ v = same-eq w v f in let y : w ≡ x = some-inj [] w x (sym (legible-plain w p) ∙ ap legible z ∙ e) in subst (λ (y : List ℕ). same w y ≡ true) y (same-refl w))
+      (λ f. let z : w ≡ x = same-eq w x f in let y : v ≡ w = written-plain w v p (unallowed (unescapeFrom false v) w (e ∙ ap (λ (y : List ℕ). some y) (sym z))) in subst (λ (y : List ℕ). same w y ≡ true) (sym y) (same-refl w))
+
+  place-plain : (ns : List (List ℕ)) → eachPlain ns ≡ true → placeIn ns v ≡ placeIn ns x
+  unfolding placeIn eachPlain
+  place-plain [] p = refl
+  place-plain (n ∷ ns) p = go (allPlain n) (same n v) refl refl (place-plain ns)
+    where
+      go : (q r : Bool) → allPlain n ≡ q → same n v ≡ r → (eachPlain ns ≡ true → placeIn ns v ≡ placeIn ns x) → placeIn (n ∷ ns) v ≡ placeIn (n ∷ ns) x
+      go false r q s ih = true-is-false (sym (rw (q, eachPlain) at p))
+      go true true q s ih = let t : same n x ≡ true = sym (same-plain n q) ∙ s in rw (s, t, placeIn)
+      go true false q s ih = let t : same n x ≡ false = sym (same-plain n q) ∙ s in rw (s, t, placeIn) (ap suc (ih (rw (q, eachPlain) at p)))
+
+  number-plain : (ns : List (List ℕ)) → eachPlain ns ≡ true → numberIn ns v ≡ numberIn ns x
+  unfolding numberIn
+  number-plain ns p = ap (λ (i : ℕ). elim (ltb i (length ns)) as (λ b. ℕ) [ true ↦ suc i | false ↦ 0 ]) (place-plain ns p)
+
+  -- The number of what is written is the number of what is read.
+  pub tag-plain : tagOf v ≡ tagOf x
+  unfolding tagOf elementNames allPlain eachPlain isPlain isAllowed
+  tag-plain = number-plain elementNames refl
+
+  pub key-plain : keyOf v ≡ keyOf x
+  unfolding keyOf keyNames allPlain eachPlain isPlain isAllowed
+  key-plain = number-plain keyNames refl

@@ -1,0 +1,47 @@
+use Rattle.walk.proofs.CodeLaws.{not-event, event-good}
+use Rattle.definition.specs.Text.{str}
+use Rattle.parts.specs.Parts.{withKind}
+use Prim.Native.Nat.{ℕ, _≤_, _<_, _+_, _-_}
+use mathlib.Core.Path.{_≡_, refl, sym, ap, _∙_}
+use lib.ListN.{length, drop}
+use native.Mathlib.Omega.{arith}
+use borrow.Author.Tests.{not-true, not-false}
+use borrow.Author.Needs.{needs}
+use borrow.Author.Needs.{needs}
+use Rattle.walk.proofs.on_event.Statement.{statement}
+use Rattle.walk.proofs.on_event.Tie as tie
+
+slice-aggregate-has-head : tie.Need-slice-aggregate-has-head
+slice-aggregate-has-head c = search needs
+
+has-head-requires : tie.Need-has-head-requires
+has-head-requires c κs = tt
+
+break-off-requires : tie.Need-break-off-requires
+break-off-requires c κs = tt
+
+returns : tie.Need-returns
+unfolding str
+returns c = c .break-off .ensures ∙ not-event (c .before .before .before .before .before .args .line .now) 0 (c .before .before .before .before .before .args .d) (sym (c .before .before .has-head .ensures) ∙ not-true _ (c .before .if1 .taken))
+
+after-head-requires : tie.Need-after-head-requires
+after-head-requires c κs = tt
+
+kind-of-requires : tie.Need-kind-of-requires
+kind-of-requires c κs = tt
+
+returns-2 : tie.Need-returns-2
+unfolding str withKind
+returns-2 c = event-good (c .before .before .before .before .before .before .args .line .now) (c .before .before .before .before .before .before .args .d) (c .before .after-head .result .now) (c .kind-of .result) (sym (c .before .before .before .has-head .ensures) ∙ not-false _ (c .before .before .if1 .left)) (c .before .after-head .ensures) (c .kind-of .ensures)
+
+pub on-event-spec : {M : Type 1} → statement M
+on-event-spec =
+    tie.close
+    (tie.spec
+    slice-aggregate-has-head
+    has-head-requires
+    break-off-requires
+    returns
+    after-head-requires
+    kind-of-requires
+    returns-2)

@@ -1,0 +1,82 @@
+use Rattle.walk.proofs.CodeLaws.{not-key, key-bad, key-good, head-length}
+use Rattle.definition.specs.Text.{str}
+use Rattle.parts.specs.Parts.{withKey}
+use Prim.Native.Nat.{ℕ, _≤_, _<_, _+_, _-_}
+use mathlib.Core.Path.{_≡_, refl, sym, ap, _∙_}
+use lib.ListN.{length, drop}
+use native.Mathlib.Omega.{arith}
+use borrow.Author.Tests.{not-true, not-false}
+use borrow.Author.Needs.{needs}
+use borrow.Author.Needs.{needs}
+use Rattle.walk.proofs.on_key.Statement.{statement}
+use Rattle.walk.proofs.on_key.Tie as tie
+
+slice-aggregate-has-head : tie.Need-slice-aggregate-has-head
+slice-aggregate-has-head c = search needs
+
+has-head-requires : tie.Need-has-head-requires
+has-head-requires c κs = tt
+
+on-text-requires : tie.Need-on-text-requires
+unfolding str
+on-text-requires c κs = (c .before .before .before .before .pre, sym (c .before .has-head .ensures) ∙ c .if1 .taken)
+
+returns : tie.Need-returns
+returns c = search needs
+
+slice-aggregate-has-head-2 : tie.Need-slice-aggregate-has-head-2
+slice-aggregate-has-head-2 c = search needs
+
+has-head-requires-2 : tie.Need-has-head-requires-2
+has-head-requires-2 c κs = tt
+
+break-off-requires : tie.Need-break-off-requires
+break-off-requires c κs = tt
+
+returns-2 : tie.Need-returns-2
+unfolding str
+returns-2 c = c .break-off .ensures ∙ not-key (c .before .before .before .before .before .before .before .before .args .line .now) (c .before .before .before .before .before .before .before .before .args .at) (c .before .before .before .before .before .before .before .before .args .d) (sym (c .before .before .before .before .before .has-head .ensures) ∙ c .before .before .before .before .if1 .left) (sym (c .before .before .has-head2 .ensures) ∙ not-true _ (c .before .if2 .taken))
+
+after-head-requires : tie.Need-after-head-requires
+after-head-requires c κs = tt
+
+add-find-part : tie.Need-add-find-part
+unfolding str
+add-find-part c = omega (arith, c .before .before .before .before .before .before .before .before .pre, head-length (str "key=") (c .before .before .before .before .before .before .before .before .args .line .now) (sym (c .before .before .has-head2 .ensures) ∙ not-false _ (c .before .if2 .left)))
+
+find-part-requires : tie.Need-find-part-requires
+find-part-requires c κs = tt
+
+break-off-requires-2 : tie.Need-break-off-requires-2
+break-off-requires-2 c κs = tt
+
+returns-3 : tie.Need-returns-3
+unfolding str
+returns-3 c = c .break-off2 .ensures ∙ key-bad (c .before .before .before .before .before .before .before .before .before .before .before .before .args .line .now) (c .before .before .before .before .before .before .before .before .before .before .before .before .args .at) (c .before .before .before .before .before .before .before .before .before .before .before .before .args .d) (c .before .before .before .before .after-head .result .now) (c .before .before .before .find-part .result) (sym (c .before .before .before .before .before .before .has-head2 .ensures) ∙ not-false _ (c .before .before .before .before .before .if2 .left)) (c .before .before .before .before .after-head .ensures) (c .before .before .before .find-part .ensures) (not-true _ (c .before .if3 .taken))
+
+key-of-requires : tie.Need-key-of-requires
+key-of-requires c κs = tt
+
+returns-4 : tie.Need-returns-4
+unfolding str withKey
+returns-4 c = key-good (c .before .before .before .before .before .before .before .before .before .before .before .before .before .args .line .now) (c .before .before .before .before .before .before .before .before .before .before .before .before .before .args .at) (c .before .before .before .before .before .before .before .before .before .before .before .before .before .args .d) (c .before .before .before .before .before .after-head .result .now) (c .before .before .before .before .find-part .result) (sym (c .before .before .before .before .before .before .before .has-head2 .ensures) ∙ not-false _ (c .before .before .before .before .before .before .if2 .left)) (c .before .before .before .before .before .after-head .ensures) (c .before .before .before .before .find-part .ensures) (c .key-of .result) (c .key-of .ensures) (not-false _ (c .before .before .if3 .left))
+
+pub on-key-spec : {M : Type 1} → statement M
+on-key-spec =
+    tie.close
+    (tie.spec
+    slice-aggregate-has-head
+    has-head-requires
+    on-text-requires
+    returns
+    slice-aggregate-has-head-2
+    has-head-requires-2
+    break-off-requires
+    returns-2
+    after-head-requires
+    add-find-part
+    find-part-requires
+    break-off-requires-2
+    returns-3
+    key-of-requires
+    returns-4)

@@ -1,0 +1,65 @@
+use Rattle.walk.proofs.CodeLaws.{not-name, name-bad, name-good, head-length}
+use Rattle.definition.specs.Text.{str}
+use Rattle.parts.specs.Parts.{withName}
+use Prim.Native.Nat.{ℕ, _≤_, _<_, _+_, _-_}
+use mathlib.Core.Path.{_≡_, refl, sym, ap, _∙_}
+use lib.ListN.{length, drop}
+use native.Mathlib.Omega.{arith}
+use borrow.Author.Tests.{not-true, not-false}
+use borrow.Author.Needs.{needs}
+use borrow.Author.Needs.{needs}
+use Rattle.walk.proofs.on_name.Statement.{statement}
+use Rattle.walk.proofs.on_name.Tie as tie
+
+slice-aggregate-has-head : tie.Need-slice-aggregate-has-head
+slice-aggregate-has-head c = search needs
+
+has-head-requires : tie.Need-has-head-requires
+has-head-requires c κs = tt
+
+break-off-requires : tie.Need-break-off-requires
+break-off-requires c κs = tt
+
+returns : tie.Need-returns
+unfolding str
+returns c = c .break-off .ensures ∙ not-name (c .before .before .before .before .before .args .line .now) (c .before .before .before .before .before .args .at) (c .before .before .before .before .before .args .d) (sym (c .before .before .has-head .ensures) ∙ not-true _ (c .before .if1 .taken))
+
+after-head-requires : tie.Need-after-head-requires
+after-head-requires c κs = tt
+
+add-find-part : tie.Need-add-find-part
+unfolding str
+add-find-part c = omega (arith, c .before .before .before .before .before .pre, head-length (str "name=") (c .before .before .before .before .before .args .line .now) (sym (c .before .before .has-head .ensures) ∙ not-false _ (c .before .if1 .left)))
+
+find-part-requires : tie.Need-find-part-requires
+find-part-requires c κs = tt
+
+break-off-requires-2 : tie.Need-break-off-requires-2
+break-off-requires-2 c κs = tt
+
+returns-2 : tie.Need-returns-2
+unfolding str
+returns-2 c = c .break-off2 .ensures ∙ name-bad (c .before .before .before .before .before .before .before .before .before .args .line .now) (c .before .before .before .before .before .before .before .before .before .args .at) (c .before .before .before .before .before .before .before .before .before .args .d) (c .before .before .before .before .after-head .result .now) (c .before .before .before .find-part .result) (sym (c .before .before .before .before .before .before .has-head .ensures) ∙ not-false _ (c .before .before .before .before .before .if1 .left)) (c .before .before .before .before .after-head .ensures) (c .before .before .before .find-part .ensures) (not-true _ (c .before .if2 .taken))
+
+tag-of-requires : tie.Need-tag-of-requires
+tag-of-requires c κs = tt
+
+returns-3 : tie.Need-returns-3
+unfolding str withName
+returns-3 c = name-good (c .before .before .before .before .before .before .before .before .before .before .args .line .now) (c .before .before .before .before .before .before .before .before .before .before .args .at) (c .before .before .before .before .before .before .before .before .before .before .args .d) (c .before .before .before .before .before .after-head .result .now) (c .before .before .before .before .find-part .result) (sym (c .before .before .before .before .before .before .before .has-head .ensures) ∙ not-false _ (c .before .before .before .before .before .before .if1 .left)) (c .before .before .before .before .before .after-head .ensures) (c .before .before .before .before .find-part .ensures) (c .tag-of .result) (c .tag-of .ensures) (not-false _ (c .before .before .if2 .left))
+
+pub on-name-spec : {M : Type 1} → statement M
+on-name-spec =
+    tie.close
+    (tie.spec
+    slice-aggregate-has-head
+    has-head-requires
+    break-off-requires
+    returns
+    after-head-requires
+    add-find-part
+    find-part-requires
+    break-off-requires-2
+    returns-2
+    tag-of-requires
+    returns-3)

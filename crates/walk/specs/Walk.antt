@@ -1,0 +1,96 @@
+-- An event's lines walked in order.
+use Prim.Native.Nat.{ℕ, zero, suc, _+_}
+use mathlib.Core.Bool.{Bool, true, false}
+use mathlib.Core.List.{List, [], _∷_}
+use lib.ListN.{length}
+use Rattle.definition.specs.Limits.{limits01}
+use Rattle.definition.specs.Text.{placeIn}
+use Rattle.definition.specs.Elements.{tagOf, keyOf}
+use Rattle.definition.specs.Event as E
+use Rattle.definition.specs.Event.{Line, lineOf, linesFrom, tailFrom, isNil, kindNames}
+use Rattle.lines.specs.Escapes.{scanned}
+use Rattle.parts.specs.declared.Walked.{Walked}
+use Rattle.parts.specs.Parts.{begun, broken, withKind, withName, withKey, withText, addedValue, fits, written}
+
+-- A decoded line and where it begins.
+pub data Placed : Type 0 where
+  line : ℕ → Line → Placed
+
+unfoldable pub placedLines : ℕ → List (List ℕ) → List Placed
+placedLines at [] = []
+placedLines at (l ∷ ls) = line at (lineOf l) ∷ placedLines (at + suc (length l)) ls
+
+-- The limits of each part, and of the number of pairs.
+unfoldable pub nameFits : List ℕ → Bool
+unfolding fits scanned
+nameFits n = fits 1 (limits01 .name) (scanned n)
+
+unfoldable pub keyFits : List ℕ → Bool
+unfolding fits scanned
+keyFits k = fits 1 (limits01 .key) (scanned k)
+
+unfoldable pub valueFits : List ℕ → Bool
+unfolding fits scanned
+valueFits v = fits 0 (limits01 .value) (scanned v)
+
+unfoldable pub textFits : List ℕ → Bool
+unfolding fits scanned
+textFits v = fits 0 (limits01 .text) (scanned v)
+
+-- ---- a step: one line more
+
+unfoldable pub onEvent : Line → Walked → Walked
+unfolding withKind broken kindNames placeIn
+onEvent (E.event k) d = withKind (placeIn kindNames k) d
+onEvent (E.name n) d = broken d
+onEvent (E.key k) d = broken d
+onEvent (E.value v) d = broken d
+onEvent (E.text v) d = broken d
+onEvent E.junk d = broken d
+
+unfoldable pub onName : ℕ → Line → Walked → Walked
+unfolding withName broken nameFits written tagOf
+onName at (E.event k) d = broken d
+onName at (E.name n) d = elim (nameFits n) [ true ↦ withName (tagOf n) (written (at + 5) n) d | false ↦ broken d ]
+onName at (E.key k) d = broken d
+onName at (E.value v) d = broken d
+onName at (E.text v) d = broken d
+onName at E.junk d = broken d
+
+unfoldable pub onKey : ℕ → Line → Walked → Walked
+unfolding withKey withText broken keyFits textFits written keyOf
+onKey at (E.event k) d = broken d
+onKey at (E.name n) d = broken d
+onKey at (E.key k) d = elim (keyFits k) [ true ↦ withKey (keyOf k) (written (at + 4) k) d | false ↦ broken d ]
+onKey at (E.value v) d = broken d
+onKey at (E.text v) d = elim (textFits v) [ true ↦ withText (written (at + 5) v) d | false ↦ broken d ]
+onKey at E.junk d = broken d
+
+unfoldable pub onValue : ℕ → Line → Walked → Walked
+unfolding addedValue broken valueFits written
+onValue at (E.event k) d = broken d
+onValue at (E.name n) d = broken d
+onValue at (E.key k) d = broken d
+onValue at (E.value v) d = elim (valueFits v) [ true ↦ addedValue (written (at + 6) v) d | false ↦ broken d ]
+onValue at (E.text v) d = broken d
+onValue at E.junk d = broken d
+
+unfoldable pub step : ℕ → ℕ → Line → Walked → Walked
+unfolding onEvent onName onKey onValue broken
+step zero at l d = onEvent l d
+step (suc zero) at l d = onName at l d
+step (suc (suc zero)) at l d = onKey at l d
+step (suc (suc (suc zero))) at l d = onValue at l d
+step (suc (suc (suc (suc n)))) at l d = broken d
+
+unfoldable pub walk : List Placed → Walked → Walked
+unfolding step
+walk [] d = d
+walk (line at l ∷ ls) d = walk ls (step (d .next) at l d)
+
+-- All lines; out of form where the last one is not ended.
+unfoldable pub walked : List ℕ → Walked
+unfolding walk placedLines linesFrom begun broken tailFrom isNil
+walked raw =
+    let w : Walked = walk (placedLines 0 (linesFrom [] raw)) begun in
+    elim (isNil (tailFrom [] raw)) [ true ↦ w | false ↦ broken w ]
