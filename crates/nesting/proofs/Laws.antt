@@ -7,12 +7,12 @@ use native.Mathlib.Nat.{add-zero}
 use native.Mathlib.Numerals.{add-one}
 use native.Mathlib.Omega.{arith}
 use lib.Dec.{eqb, ltb}
-use lib.ListN.{length, getD, drop, drop-of-length-le, List·getD-map, replicate, getD-replicate}
+use lib.ListN.{length, getD, drop, drop-of-length-le, length-map, List·getD-map, replicate, getD-replicate}
 use lib.Seq.{drop-cons}
-use borrow.Author.Tests.{lt-ltb, le-ltb, eq-eqb, ne-eqb, eqb-true}
+use borrow.Author.Tests.{ltb-true, lt-ltb, le-ltb, eq-eqb, ne-eqb, eqb-true}
 use Rattle.text.proofs.Laws.{place-here, place-next, place-none}
 use Rattle.definition.specs.Text.{str, same, placeIn, bytesAt}
-use Rattle.definition.specs.Elements.{among, elementNames, keyNames, numberIn, holdsText, namesState}
+use Rattle.definition.specs.Elements.{among, elementNames, keyNames, numberIn, tagOf, keyOf, holdsText, namesState}
 use Rattle.definition.specs.Nesting.{Below, nesting, allowedIn, parentAllowed}
 use Rattle.nesting.specs.Tables.{nameRow, rowName, elementRows, keyRows, parentsOf, parentRow, parentRows, listed}
 
@@ -34,43 +34,77 @@ no-name = refl
 row-at : (rows ns : List (List ℕ)) → map rowName rows ≡ ns → (i : ℕ) → rowName (getD rows i []) ≡ getD ns i []
 row-at rows ns e i = sym (ap (λ (d : List ℕ). getD (map rowName rows) i d) (sym no-name) ∙ List·getD-map rowName rows i []) ∙ ap (λ (l : List (List ℕ)). getD l i []) e
 
-pub element-at : (i : ℕ) → rowName (getD elementRows i []) ≡ getD elementNames i []
-element-at = row-at elementRows elementNames elements-fit
-
-pub key-at : (i : ℕ) → rowName (getD keyRows i []) ≡ getD keyNames i []
-key-at = row-at keyRows keyNames keys-fit
-
-pub elements-long : length elementNames ≡ 27
-unfolding elementNames
-elements-long = refl
-
-pub keys-long : length keyNames ≡ 28
-unfolding keyNames
-keys-long = refl
-
 -- ---- a search in a table of names
 
 module _ (ns : List (List ℕ)) (w : List ℕ) (i : ℕ) where
-  pub search-here : i < length ns → same (getD ns i []) w ≡ true → i + placeIn (drop i ns) w ≡ i
+  search-here : i < length ns → same (getD ns i []) w ≡ true → i + placeIn (drop i ns) w ≡ i
   search-here h e = rw (drop-cons ns i [] h, place-here _ (drop (suc i) ns) _ e, add-zero)
 
-  pub search-next : i < length ns → same (getD ns i []) w ≡ false → i + 1 + placeIn (drop (i + 1) ns) w ≡ i + placeIn (drop i ns) w
+  search-next : i < length ns → same (getD ns i []) w ≡ false → i + 1 + placeIn (drop (i + 1) ns) w ≡ i + placeIn (drop i ns) w
   search-next h e =
       let k : suc i + placeIn (drop (suc i) ns) w ≡ i + suc (placeIn (drop (suc i) ns) w) = omega arith in
       rw (add-one, k, drop-cons ns i [] h, place-next _ _ _ e)
 
-  pub search-end : length ns ≤ i → i + placeIn (drop i ns) w ≡ i
+  search-end : length ns ≤ i → i + placeIn (drop i ns) w ≡ i
   search-end h = rw (drop-of-length-le ns h, place-none w, add-zero)
 
   picked : placeIn ns w ≡ i → (t : Bool) → ltb i (length ns) ≡ t → numberIn ns w ≡ elim t [ true ↦ suc i | false ↦ 0 ]
   unfolding numberIn
   picked e t f = ap (λ (p : ℕ). elim (ltb p (length ns)) [ true ↦ suc p | false ↦ 0 ]) e ∙ ap (λ (t : Bool). elim t [ true ↦ suc i | false ↦ 0 ]) f
 
-  pub number-found : i < length ns → placeIn ns w ≡ i → i + 1 ≡ numberIn ns w
+  number-found : i < length ns → placeIn ns w ≡ i → i + 1 ≡ numberIn ns w
   number-found h e = add-one i ∙ sym (picked e true (lt-ltb _ _ h))
 
-  pub number-none : length ns ≤ i → placeIn ns w ≡ i → 0 ≡ numberIn ns w
+  number-none : length ns ≤ i → placeIn ns w ≡ i → 0 ≡ numberIn ns w
   number-none h e = sym (picked e false (le-ltb _ _ h))
+
+-- In a table of rows, row i being looked at.
+module _ (rows : List (List ℕ)) (w : List ℕ) (i : ℕ) where
+  abbrev pub Left : Type 0
+  Left = i + placeIn (drop i (map rowName rows)) w ≡ placeIn (map rowName rows) w
+
+  module _ (h : i < length rows) where
+    inside : i < length (map rowName rows)
+    inside = omega (arith, length-map rows rowName)
+
+    named : {t : Bool} → same (rowName (getD rows i [])) w ≡ t → same (getD (map rowName rows) i []) w ≡ t
+    named e = ap (λ (x : List ℕ). same x w) (sym (row-at rows (map rowName rows) refl i)) ∙ e
+
+    pub row-found : same (rowName (getD rows i [])) w ≡ true → Left → i + 1 ≡ numberIn (map rowName rows) w
+    row-found e l = number-found (map rowName rows) w i inside (sym l ∙ search-here (map rowName rows) w i inside (named e))
+
+    pub row-passed : same (rowName (getD rows i [])) w ≡ false → Left → i + 1 + placeIn (drop (i + 1) (map rowName rows)) w ≡ placeIn (map rowName rows) w
+    row-passed e l = search-next (map rowName rows) w i inside (named e) ∙ l
+
+  pub no-row : length rows ≤ i → Left → 0 ≡ numberIn (map rowName rows) w
+  no-row h l =
+      let k : length (map rowName rows) ≤ i = omega (arith, length-map rows rowName) in
+      number-none (map rowName rows) w i k (sym l ∙ search-end (map rowName rows) w i k)
+
+number-small : (ns : List (List ℕ)) (w : List ℕ) → numberIn ns w ≤ length ns
+unfolding numberIn
+number-small ns w = go (ltb (placeIn ns w) (length ns)) refl
+  where
+    go : (t : Bool) → ltb (placeIn ns w) (length ns) ≡ t → numberIn ns w ≤ length ns
+    go true q = let z : placeIn ns w < length ns = ltb-true (placeIn ns w) (length ns) q in rw (q, numberIn) z
+    go false q = rw (q, numberIn) (omega arith)
+
+module _ (r : ℕ) (rows : List (List ℕ)) (w : List ℕ) (e : r ≡ numberIn (map rowName rows) w) where
+  pub tag-is : rows ≡ elementRows → r ≡ tagOf w
+  unfolding tagOf
+  tag-is f = e ∙ ap (λ (ns : List (List ℕ)). numberIn ns w) (ap (map rowName) f ∙ elements-fit)
+
+  pub key-is : rows ≡ keyRows → r ≡ keyOf w
+  unfolding keyOf
+  key-is f = e ∙ ap (λ (ns : List (List ℕ)). numberIn ns w) (ap (map rowName) f ∙ keys-fit)
+
+pub tag-small : (w : List ℕ) → tagOf w ≤ 27
+unfolding tagOf elementNames
+tag-small w = number-small elementNames w
+
+pub key-small : (w : List ℕ) → keyOf w ≤ 28
+unfolding keyOf keyNames
+key-small w = number-small keyNames w
 
 -- ---- the nesting table
 

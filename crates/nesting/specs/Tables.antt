@@ -8,9 +8,9 @@ use Rattle.definition.specs.Text.{bytesAt}
 use Rattle.definition.specs.Elements.{elementNames, keyNames}
 use Rattle.definition.specs.Nesting.{Below, nesting}
 
--- A name in twelve bytes: its length, the name, zeros.
+-- A name in twelve bytes: its length, the name, spaces.
 unfoldable pub nameRow : List ℕ → List ℕ
-nameRow w = length w ∷ w ++ replicate (11 - length w) 0
+nameRow w = length w ∷ w ++ replicate (11 - length w) 32
 
 unfoldable pub rowName : List ℕ → List ℕ
 unfolding bytesAt

@@ -1,76 +1,76 @@
 // Elements and keys by number, and which element may stand in which.
 use text::same_at;
 ghost use mathlib.Core.Path.{_≡_};
-ghost use mathlib.Core.List.{[]};
+ghost use mathlib.Core.List.{[], map};
 ghost use Prim.Native.Nat.{_<_};
 ghost use lib.ListN.{getD};
 ghost use Rattle.definition.specs.Text.{same};
-ghost use Rattle.definition.specs.Elements.{among, tagOf, keyOf, holdsText, namesState};
+ghost use Rattle.definition.specs.Elements.{among, numberIn, tagOf, keyOf, holdsText, namesState};
 ghost use Rattle.definition.specs.Nesting.{parentAllowed};
 ghost use Rattle.nesting.specs.Ids.{rowOf, root};
-ghost use Rattle.nesting.specs.Tables.{elementRows, keyRows, rowName, parentRows, parentsOf};
+ghost use Rattle.nesting.specs.Tables.{rowName, parentRows, parentsOf};
 
-// Elements in the order of their numbers, from 1: length, name, zeros.
+// Elements in the order of their numbers, from 1: length, name, spaces.
 const ELEMENTS: [[u8; 12]; 27] = [
-    *b"\x05scxml\0\0\0\0\0\0",
-    *b"\x05state\0\0\0\0\0\0",
-    *b"\x08parallel\0\0\0",
-    *b"\x09datamodel\0\0",
-    *b"\x05final\0\0\0\0\0\0",
-    *b"\x07history\0\0\0\0",
-    *b"\x07initial\0\0\0\0",
-    *b"\x06invoke\0\0\0\0\0",
-    *b"\x04data\0\0\0\0\0\0\0",
-    *b"\x08donedata\0\0\0",
-    *b"\x08finalize\0\0\0",
-    *b"\x04else\0\0\0\0\0\0\0",
-    *b"\x06elseif\0\0\0\0\0",
-    *b"\x05param\0\0\0\0\0\0",
-    *b"\x07content\0\0\0\0",
-    *b"\x0atransition\0",
-    *b"\x07onentry\0\0\0\0",
-    *b"\x06onexit\0\0\0\0\0",
-    *b"\x04send\0\0\0\0\0\0\0",
-    *b"\x05raise\0\0\0\0\0\0",
-    *b"\x06cancel\0\0\0\0\0",
-    *b"\x03log\0\0\0\0\0\0\0\0",
-    *b"\x06assign\0\0\0\0\0",
-    *b"\x02if\0\0\0\0\0\0\0\0\0",
-    *b"\x07foreach\0\0\0\0",
-    *b"\x06script\0\0\0\0\0",
-    *b"\x07include\0\0\0\0",
+    *b"\x05scxml      ",
+    *b"\x05state      ",
+    *b"\x08parallel   ",
+    *b"\x09datamodel  ",
+    *b"\x05final      ",
+    *b"\x07history    ",
+    *b"\x07initial    ",
+    *b"\x06invoke     ",
+    *b"\x04data       ",
+    *b"\x08donedata   ",
+    *b"\x08finalize   ",
+    *b"\x04else       ",
+    *b"\x06elseif     ",
+    *b"\x05param      ",
+    *b"\x07content    ",
+    *b"\x0atransition ",
+    *b"\x07onentry    ",
+    *b"\x06onexit     ",
+    *b"\x04send       ",
+    *b"\x05raise      ",
+    *b"\x06cancel     ",
+    *b"\x03log        ",
+    *b"\x06assign     ",
+    *b"\x02if         ",
+    *b"\x07foreach    ",
+    *b"\x06script     ",
+    *b"\x07include    ",
 ];
 
 // Keys likewise.
 const KEYS: [[u8; 12]; 28] = [
-    *b"\x02id\0\0\0\0\0\0\0\0\0",
-    *b"\x07initial\0\0\0\0",
-    *b"\x04name\0\0\0\0\0\0\0",
-    *b"\x09datamodel\0\0",
-    *b"\x07binding\0\0\0\0",
-    *b"\x07version\0\0\0\0",
-    *b"\x04type\0\0\0\0\0\0\0",
-    *b"\x08typeexpr\0\0\0",
-    *b"\x03src\0\0\0\0\0\0\0\0",
-    *b"\x07srcexpr\0\0\0\0",
-    *b"\x0aidlocation\0",
-    *b"\x08namelist\0\0\0",
+    *b"\x02id         ",
+    *b"\x07initial    ",
+    *b"\x04name       ",
+    *b"\x09datamodel  ",
+    *b"\x07binding    ",
+    *b"\x07version    ",
+    *b"\x04type       ",
+    *b"\x08typeexpr   ",
+    *b"\x03src        ",
+    *b"\x07srcexpr    ",
+    *b"\x0aidlocation ",
+    *b"\x08namelist   ",
     *b"\x0bautoforward",
-    *b"\x05event\0\0\0\0\0\0",
-    *b"\x09eventexpr\0\0",
-    *b"\x04cond\0\0\0\0\0\0\0",
-    *b"\x06target\0\0\0\0\0",
-    *b"\x0atargetexpr\0",
-    *b"\x04expr\0\0\0\0\0\0\0",
-    *b"\x05array\0\0\0\0\0\0",
-    *b"\x04item\0\0\0\0\0\0\0",
-    *b"\x05index\0\0\0\0\0\0",
-    *b"\x06sendid\0\0\0\0\0",
-    *b"\x0asendidexpr\0",
-    *b"\x05delay\0\0\0\0\0\0",
-    *b"\x09delayexpr\0\0",
-    *b"\x08location\0\0\0",
-    *b"\x05label\0\0\0\0\0\0",
+    *b"\x05event      ",
+    *b"\x09eventexpr  ",
+    *b"\x04cond       ",
+    *b"\x06target     ",
+    *b"\x0atargetexpr ",
+    *b"\x04expr       ",
+    *b"\x05array      ",
+    *b"\x04item       ",
+    *b"\x05index      ",
+    *b"\x06sendid     ",
+    *b"\x0asendidexpr ",
+    *b"\x05delay      ",
+    *b"\x09delayexpr  ",
+    *b"\x08location   ",
+    *b"\x05label      ",
 ];
 
 // The elements that an element may stand in, for those numbered 2 to 26: in the Rust's order, then zeros.
@@ -132,20 +132,6 @@ pub fn root_row() -> usize
     state_row(StateId(1))
 }
 
-fn element_row(i: usize) -> [u8; 12]
-    requires { ⌜ i < 27 ⌝ }
-    ensures { λ r. ⌜ r ≡ getD elementRows i [] ⌝ }
-{
-    ELEMENTS[i]
-}
-
-fn key_row(i: usize) -> [u8; 12]
-    requires { ⌜ i < 28 ⌝ }
-    ensures { λ r. ⌜ r ≡ getD keyRows i [] ⌝ }
-{
-    KEYS[i]
-}
-
 fn is_named(row: [u8; 12], name: &[u8]) -> bool
     ensures { λ r. ⌜ r ≡ same (rowName row) (now (name .entry)) ⌝ }
 {
@@ -153,13 +139,14 @@ fn is_named(row: [u8; 12], name: &[u8]) -> bool
     same_at(&row, 1, len, name)
 }
 
-// An element's number, or 0 where the name is none of them.
-pub fn tag_of(name: &[u8]) -> u32
-    ensures { λ r. ⌜ r ≡ tagOf (now (name .entry)) ⌝ }
+// A name's place in a table, from 1; 0 where it is not there.
+fn number_in(rows: &[[u8; 12]], name: &[u8]) -> usize
+    ensures { λ r. ⌜ r ≡ numberIn (map rowName (now (rows .entry))) (now (name .entry)) ⌝ }
 {
-    let mut i: u32 = 0;
-    while i < 27 {
-        if is_named(element_row(wide(i)), name) {
+    let mut i = 0;
+    while i < rows.len() {
+        let row = rows[i];
+        if is_named(row, name) {
             return i + 1;
         }
         i += 1;
@@ -167,18 +154,20 @@ pub fn tag_of(name: &[u8]) -> u32
     0
 }
 
+// An element's number, or 0 where the name is none of them.
+pub fn tag_of(name: &[u8]) -> u32
+    ensures { λ r. ⌜ r ≡ tagOf (now (name .entry)) ⌝ }
+{
+    let found = number_in(&ELEMENTS, name);
+    found as u32
+}
+
 // A key's number, or 0 where the key is none of them.
 pub fn key_of(key: &[u8]) -> u32
     ensures { λ r. ⌜ r ≡ keyOf (now (key .entry)) ⌝ }
 {
-    let mut i: u32 = 0;
-    while i < 28 {
-        if is_named(key_row(wide(i)), key) {
-            return i + 1;
-        }
-        i += 1;
-    }
-    0
+    let found = number_in(&KEYS, key);
+    found as u32
 }
 
 fn number(x: u8) -> u32
