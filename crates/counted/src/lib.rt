@@ -13,7 +13,7 @@ pub struct Counts {
 }
 
 // A sum that stops growing before it could overflow.
-fn plus(x: u64, k: usize) -> u64 {
+pub fn plus(x: u64, k: usize) -> u64 {
     if x < 4_000_000_000 {
         if k < 4_000_000_000 {
             return x + k as u64;
@@ -22,7 +22,7 @@ fn plus(x: u64, k: usize) -> u64 {
     x
 }
 
-fn one_if(b: bool) -> usize {
+pub fn one_if(b: bool) -> usize {
     if b {
         return 1;
     }

@@ -35,6 +35,8 @@ impl Chart {
 
     pub const TEXT: u32 = 4_096;
 
+    pub const EVENT: u32 = 49_152;
+
     pub const OPENED: u32 = 32;
 
     pub const STATES: u32 = 256;

@@ -12,16 +12,18 @@ use Rattle.definition.specs.Limits.{limits01}
 use Rattle.definition.specs.Text.{same}
 use Rattle.definition.specs.Elements.{tagOf, holdsText}
 use Rattle.definition.specs.Event.{Attribute, Event, hasText, noAttributes, kindFits, between, attributesFit, textFits, inForm, hasKey, keysDiffer, readEvent}
+use Rattle.definition.specs.Look.{valuesLength}
 use Rattle.definition.proofs.Base.{true-is-false, some-inj, and-left, and-right}
+use Rattle.definition.proofs.EventLength.{event-length}
 use Rattle.lines.specs.Parts.{orNothing}
 use Rattle.parts.specs.declared.Part.{Part}
 use Rattle.parts.specs.declared.Pair.{Pair}
 use Rattle.parts.specs.declared.Walked.{Walked}
 use Rattle.walk.specs.Walk.{walked}
 use Rattle.walk.proofs.WalkLaw.{Reads, PairReads, Pairs, no-pairs, pair, TextReads, walk-no-text, walk-text, Stopped}
-use Rattle.walk.proofs.TakenLaw.{Carries, Within, Taken, whole, none-of, taken-law}
+use Rattle.walk.proofs.TakenLaw.{Carries, Within, Taken, whole, too-long, none-of, taken-law}
 use Rattle.event.specs.declared.Described.{Described}
-use Rattle.event.specs.Described.{blank, told, shapeFits, inShape, read, pairKeys, isAmong, allDiffer, finished, described}
+use Rattle.event.specs.Described.{blank, told, shapeFits, inShape, read, pairKeys, isAmong, allDiffer, finished, described, valuesSize}
 
 -- ---- keys
 
@@ -168,6 +170,7 @@ module _ (raw : List ℕ) where
   finish-in w e false q = rw (e, finished, q, finished)
 
   finish-law : (w : Walked) → Taken raw w (readEvent raw) → Agrees raw (finished raw w)
+  finish-law w (too-long s h) = out-of-form (finish-out w (shape-no w s)) (λ e g f. omega (arith, h, event-length raw e g f))
   finish-law w (none-of s f) = out-of-form (finish-out w (shape-no w s)) (λ e g h. f e g (within-of e h))
   finish-law w (whole e g h c) = go (kindFits (e .kind) e) (keysDiffer (e .attributes)) refl refl
     where
@@ -213,3 +216,12 @@ number-law raw = go (agrees raw)
     go (out-of-form e f) = ap (λ (x : Described). x .number) e ∙ refused (readEvent raw) f
     go (keys-repeat w e r f k) = ap (λ (x : Described). x .number) e ∙ answered w false f k ∙ ap answer (sym r)
     go (in-form w r f k d) = d .number ∙ answered w true f k ∙ ap answer (sym r)
+
+-- The sum over a description's values is what the definition's text charge counts of them.
+values-read : {raw : List ℕ} {ps : List Pair} {ats : List Attribute} → Pairs raw ps ats → valuesSize ps ≡ valuesLength ats
+unfolding valuesSize valuesLength
+values-read no-pairs = refl
+values-read (pair {p} {a} r h) = ap₂ _+_ (r .value .long) (values-read h)
+
+pub values-law : (raw : List ℕ) (d : Described) (e : Event) → Describes raw d e → valuesSize (take (d .count) (d .pairs)) ≡ valuesLength (e .attributes)
+values-law raw d e h = values-read (h .pairs)

@@ -1,6 +1,6 @@
--- The keys of the pairs, one after another.
-use Prim.Native.Nat.{ℕ, _+_, _≤_, _<_}
-use mathlib.Core.Path.{_≡_}
+-- The pairs one after another: their keys, and the lengths of their values.
+use Prim.Native.Nat.{ℕ, _+_, _*_, _≤_, _<_}
+use mathlib.Core.Path.{_≡_, refl, ap, ap₂, _∙_}
 use mathlib.Core.Bool.{Bool, true, false}
 use mathlib.Core.List.{List, [], _∷_}
 use native.Mathlib.Numerals.{add-one}
@@ -8,9 +8,17 @@ use native.Mathlib.Omega.{arith}
 use lib.ListN.{length, getD, take, drop, drop-of-length-le, length-take}
 use lib.Seq.{drop-cons, getD-take}
 use Rattle.definition.specs.Text.{same}
+use Rattle.definition.specs.Event.{legible}
+use Rattle.lines.specs.Parts.{part, orNothing}
+use Rattle.parts.specs.declared.Part.{Part}
 use Rattle.parts.specs.declared.Pair.{Pair}
 use Rattle.parts.specs.Parts.{noPair}
-use Rattle.event.specs.Described.{read, pairKeys, isAmong, allDiffer}
+use Rattle.event.specs.Described.{read, pairKeys, isAmong, allDiffer, valuesSize}
+
+-- A key as the code cuts it out.
+pub key-read : (raw : List ℕ) (p : Part) (at len : ℕ) (x : List ℕ) → x ≡ part raw at len → at ≡ p .at → len ≡ p .len → orNothing (legible x) ≡ read raw p
+unfolding read
+key-read raw p at len x e f g = ap (λ (y : List ℕ). orNothing (legible y)) (e ∙ ap₂ (part raw) f g)
 
 abbrev pub keysFrom : List ℕ → List Pair → ℕ → ℕ → List (List ℕ)
 keysFrom raw ps c j = pairKeys raw (drop j (take c ps))
@@ -62,3 +70,33 @@ module _ (raw : List ℕ) (ps : List Pair) (c j : ℕ) where
   pub differ-past : c ≤ j → true ≡ allDiffer (keysFrom raw ps c j)
   unfolding allDiffer
   differ-past h = rw (keys-past h)
+
+-- ---- the lengths of values
+
+-- What is left from pair i on, and a bound of the sum.
+pub record Summing (ps : List Pair) (c sum i : ℕ) : Type 0 where
+  pub rest : sum + valuesSize (drop i (take c ps)) ≡ valuesSize (take c ps)
+  pub bound : sum ≤ i * 65536
+  pub few : i ≤ 16
+
+module _ (ps : List Pair) (c : ℕ) where
+  pub sum-start : Summing ps c 0 0
+  sum-start = record { rest = omega arith; bound = omega arith; few = omega arith }
+
+  module _ (sum i : ℕ) (s : Summing ps c sum i) where
+    pub sum-more : i < c → i < length ps → i < 16 → (n : ℕ) → n ≡ getD ps i noPair .value .size → n < 65536 → Summing ps c (sum + n) (i + 1)
+    unfolding valuesSize
+    sum-more h k f n e b =
+        let m : i < length (take c ps) = omega (arith, length-take c ps) in
+        let z : valuesSize (drop i (take c ps)) ≡ n + valuesSize (drop (i + 1) (take c ps)) = rw (drop-cons (take c ps) i noPair m, getD-take c ps i noPair h, add-one, e) refl in
+        record { rest = omega (arith, z, s .rest); bound = omega (arith, s .bound); few = omega arith }
+
+    sum-all : drop i (take c ps) ≡ [] → sum ≡ valuesSize (take c ps)
+    unfolding valuesSize
+    sum-all e = let z : valuesSize (drop i (take c ps)) ≡ 0 = ap valuesSize e in omega (arith, z, s .rest)
+
+    pub sum-past : c ≤ i → sum ≡ valuesSize (take c ps)
+    sum-past h = let m : length (take c ps) ≤ i = omega (arith, length-take c ps) in sum-all (drop-of-length-le (take c ps) m)
+
+    pub sum-none : length ps ≤ i → sum ≡ valuesSize (take c ps)
+    sum-none h = let m : length (take c ps) ≤ i = omega (arith, length-take c ps) in sum-all (drop-of-length-le (take c ps) m)

@@ -1,5 +1,5 @@
 -- An event's bytes taken apart: what the walk over its lines has brought, if the event is in form and its keys are different.
-use Prim.Native.Nat.{ℕ, zero, suc}
+use Prim.Native.Nat.{ℕ, zero, suc, _+_}
 use mathlib.Core.Bool.{Bool, true, false, _&&_, not}
 use mathlib.Core.List.{List, [], _∷_}
 use lib.ListN.{take, replicate}
@@ -88,3 +88,8 @@ finished raw w =
 unfoldable pub described : List ℕ → Described
 unfolding finished walked
 described raw = finished raw (walked raw)
+
+-- The lengths of all values together, unescaped.
+unfoldable pub valuesSize : List Pair → ℕ
+valuesSize [] = 0
+valuesSize (p ∷ ps) = p .value .size + valuesSize ps

@@ -5,12 +5,13 @@ use nesting::holds_text;
 use parts::Pair;
 use parts::Part;
 use parts::Walked;
+use parts::place;
 use walk::walk_lines;
 ghost use mathlib.Core.Path.{_≡_};
 ghost use Prim.Native.Nat.{_+_, _<_};
 ghost use lib.ListN.{getD, take, drop};
 ghost use Rattle.parts.specs.Parts.{noPair};
-ghost use Rattle.event.specs.Described.{blank, told, shapeFits, read, pairKeys, isAmong, allDiffer, described};
+ghost use Rattle.event.specs.Described.{blank, told, shapeFits, read, pairKeys, isAmong, allDiffer, described, valuesSize};
 
 // An event's bytes taken apart: its kind from 0 and its element's number, and the first `count` of `pairs` are its attributes, in order. Of kind 2,
 // `whole`, `text` is the text. A refused event has the number of the question that is answered no, and zeros.
@@ -96,8 +97,8 @@ fn key_repeats(raw: &[u8], w: Walked, i: usize) -> bool
     let count = w.count;
     let pairs = w.pairs;
     let p = pairs[i];
-    let at = p.key.at;
-    let len = p.key.len;
+    let at = place(p.key.at);
+    let len = place(p.key.len);
     let key = part_of(raw, at, len);
     let mut j = i + 1;
     while j < 16 {
@@ -105,8 +106,8 @@ fn key_repeats(raw: &[u8], w: Walked, i: usize) -> bool
             return false;
         }
         let q = pairs[j];
-        let from = q.key.at;
-        let long = q.key.len;
+        let from = place(q.key.at);
+        let long = place(q.key.len);
         if same_text(part_of(raw, from, long), key) {
             return true;
         }
@@ -149,4 +150,23 @@ pub fn describe(raw: &[u8]) -> Described
         return blank_with(4);
     }
     tell(w)
+}
+
+// The lengths of all values together, unescaped, those of unknown keys too: what the text charge counts of them.
+pub fn values_len(d: Described) -> usize
+    ensures { λ r. ⌜ r ≡ valuesSize (take (d .count) (d .pairs)) ⌝ }
+{
+    let count = d.count;
+    let pairs = d.pairs;
+    let mut sum = 0;
+    let mut i = 0;
+    while i < 16 {
+        if count <= i {
+            return sum;
+        }
+        let p = pairs[i];
+        sum += place(p.value.size);
+        i += 1;
+    }
+    sum
 }

@@ -19,19 +19,6 @@ use Rattle.lines.proofs.EscapeLaws.{First, broken, shown, here-of, widt
 
 -- ---- the same bytes
 
-module _ (a b : List ℕ) (i : ℕ) where
-  pub same-more : i < length a → i < length b → getD a i 0 ≡ getD b i 0 → same (drop (i + 1) a) (drop (i + 1) b) ≡ same (drop i a) (drop i b)
-  unfolding same
-  same-more h k e = rw (drop-cons a i 0 h, drop-cons b i 0 k, eq-eqb _ _ e, same, add-one)
-
-  pub same-stop : i < length a → i < length b → (getD a i 0 ≡ getD b i 0 → ⊥) → same (drop i a) (drop i b) ≡ false
-  unfolding same
-  same-stop h k e = rw (drop-cons a i 0 h, drop-cons b i 0 k, ne-eqb _ _ e, same)
-
-  pub same-end : length a ≤ i → length b ≤ i → same (drop i a) (drop i b) ≡ true
-  unfolding same
-  same-end h k = rw (drop-of-length-le a h, drop-of-length-le b k)
-
 pub same-length : (a b : List ℕ) → (length a ≡ length b → ⊥) → same a b ≡ false
 unfolding same
 same-length [] [] h = absurd (h refl)

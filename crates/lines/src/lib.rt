@@ -162,23 +162,6 @@ pub fn next_event(stream: &[u8], from: usize) -> usize
     i
 }
 
-// Whether two byte strings are the same.
-pub fn same_bytes(a: &[u8], b: &[u8]) -> bool
-    ensures { λ r. ⌜ r ≡ same (now (a .entry)) (now (b .entry)) ⌝ }
-{
-    if a.len() != b.len() {
-        return false;
-    }
-    let mut i = 0;
-    while i < a.len() {
-        if a[i] != b[i] {
-            return false;
-        }
-        i += 1;
-    }
-    true
-}
-
 // The part of a slice that a description names, cut off at the slice's end.
 pub fn part_of(raw: &[u8], at: usize, len: usize) -> &[u8]
     ensures { λ r. ⌜ now r ≡ part (now (raw .entry)) at len ⌝ }

@@ -1,20 +1,16 @@
 -- What the functions need of the definitions.
 use Prim.Native.Nat.{ℕ, _≤_, _<_}
-use mathlib.Core.Path.{_≡_, refl, sym, ap₂, _∙_}
-use mathlib.Core.Bool.{Bool, true, false, _&&_}
+use mathlib.Core.Path.{_≡_}
+use mathlib.Core.Bool.{Bool, true, false}
 use mathlib.Core.List.{List}
-use lib.Dec.{leb, ltb}
-use lib.ListN.{length}
+use lib.Dec.{ltb}
 use borrow.Author.Tests.{lt-ltb, le-ltb}
 use Rattle.definition.specs.Text.{str, same, placeIn}
 use Rattle.definition.specs.Event.{kindNames}
-use Rattle.lines.specs.declared.Scan.{Scan}
-use Rattle.lines.specs.Escapes.{scanned}
 use Rattle.parts.specs.declared.Part.{Part}
 use Rattle.parts.specs.declared.Walked.{Walked}
-use Rattle.parts.specs.declared.Found.{Found}
 use Rattle.parts.specs.Parts as P
-use Rattle.parts.specs.Parts.{partAt, fits, found, roomLeft, withValue, addedValue}
+use Rattle.parts.specs.Parts.{roomLeft, withValue, addedValue}
 
 -- ---- kinds
 
@@ -38,16 +34,6 @@ module _ (w : List ℕ) where
   pub kind-none : same (str "open") w ≡ false → same (str "empty") w ≡ false → same (str "whole") w ≡ false → same (str "end") w ≡ false → 4 ≡ placeIn kindNames w
   unfolding placeIn kindNames
   kind-none e f g h = rw (e, placeIn, f, placeIn, g, placeIn, h, placeIn)
-
--- ---- a part
-
-pub found-is : (x : List ℕ) (low high at top : ℕ) (s : Scan) → s ≡ scanned x → top ≡ high
-    → record { ok = s .ok && leb low (s .len) && leb (s .len) top; part = partAt at (length x) (s .len) } ≡ found low high at x
-unfolding found fits P.written
-found-is x low high at top s e f = ap₂ (λ (q : Scan) (t : ℕ). mk q t) e f
-  where
-    mk : Scan → ℕ → Found
-    mk q t = record { ok = q .ok && leb low (q .len) && leb (q .len) t; part = partAt at (length x) (q .len) }
 
 -- ---- a value more
 

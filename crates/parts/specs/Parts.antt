@@ -1,16 +1,12 @@
 -- What an event's lines have brought: each part by where it is written, and the numbers of its element and keys.
 use Prim.Native.Nat.{ℕ, _+_}
-use mathlib.Core.Bool.{Bool, true, false, _&&_}
-use mathlib.Core.List.{List}
-use lib.ListN.{length, set, replicate}
-use lib.Dec.{leb, ltb}
+use mathlib.Core.Bool.{Bool, true, false}
+use lib.ListN.{set, replicate}
+use lib.Dec.{ltb}
 use Rattle.definition.specs.Limits.{limits01}
-use Rattle.lines.specs.declared.Scan.{Scan}
-use Rattle.lines.specs.Escapes.{scanned}
 use Rattle.parts.specs.declared.Part.{Part}
 use Rattle.parts.specs.declared.Pair.{Pair}
 use Rattle.parts.specs.declared.Walked.{Walked}
-use Rattle.parts.specs.declared.Found.{Found}
 
 abbrev pub partAt : ℕ → ℕ → ℕ → Part
 partAt at len size = record { at = at; len = len; size = size }
@@ -117,19 +113,6 @@ withText p d =
       pairs = d .pairs;
       text = p;
     }
-
--- Whether what was scanned is legible and of a length within the limits.
-unfoldable pub fits : ℕ → ℕ → Scan → Bool
-fits low high s = s .ok && leb low (s .len) && leb (s .len) high
-
--- What is written at a place, measured.
-unfoldable pub written : ℕ → List ℕ → Part
-unfolding scanned
-written at x = partAt at (length x) (scanned x .len)
-
-unfoldable pub found : ℕ → ℕ → ℕ → List ℕ → Found
-unfolding fits scanned written
-found low high at x = record { ok = fits low high (scanned x); part = written at x }
 
 -- "16 attributes."
 unfoldable pub roomLeft : ℕ → Bool

@@ -1,17 +1,17 @@
 // The parts of an event as its lines bring them.
 use definition::Chart;
-use lines::same_bytes;
-use lines::scan_line;
+use text::same;
 ghost use mathlib.Core.Path.{_≡_};
+ghost use Prim.Native.Nat.{_^_, _<_};
 ghost use Rattle.definition.specs.Text.{placeIn};
 ghost use Rattle.definition.specs.Event.{kindNames};
-ghost use Rattle.parts.specs.Parts.{begun, broken, found, addedValue};
+ghost use Rattle.parts.specs.Parts.{begun, broken, addedValue};
 
-// A part of an event: where it is written, in how many bytes, and its unescaped length.
+// A part of an event: where it is written, in how many bytes, and its unescaped length. Small, since descriptions go by value.
 pub struct Part {
-    pub at: usize,
-    pub len: usize,
-    pub size: usize,
+    pub at: u16,
+    pub len: u16,
+    pub size: u16,
 }
 
 // An attribute: its key's number, 0 where the key is unknown, and both parts.
@@ -35,33 +35,35 @@ pub struct Walked {
     pub text: Part,
 }
 
-// A part, and whether it is legible and within its limits.
-pub struct Found {
-    pub ok: bool,
-    pub part: Part,
-}
-
 // The kind that a word names, from 0; 4 if none.
 pub fn kind_of(word: &[u8]) -> u32
     ensures { λ r. ⌜ r ≡ placeIn kindNames (now (word .entry)) ⌝ }
 {
-    if same_bytes(b"open", word) {
+    if same(b"open", word) {
         return 0;
     }
-    if same_bytes(b"empty", word) {
+    if same(b"empty", word) {
         return 1;
     }
-    if same_bytes(b"whole", word) {
+    if same(b"whole", word) {
         return 2;
     }
-    if same_bytes(b"end", word) {
+    if same(b"end", word) {
         return 3;
     }
     4
 }
 
-fn wide(x: u32) -> usize
+pub fn wide(x: u32) -> usize
     ensures { λ r. ⌜ r ≡ x ⌝ }
+{
+    x as usize
+}
+
+// A place or a length in an event.
+pub fn place(x: u16) -> usize
+    ensures { λ r. ⌜ r ≡ x ⌝ }
+    ensures { λ r. ⌜ r < 2 ^ 16 ⌝ }
 {
     x as usize
 }
@@ -101,23 +103,6 @@ pub fn break_off(d: Walked) -> Walked
     let mut e = d;
     e.next = 5;
     e
-}
-
-// What is written at `at`, and whether it is legible and of `low` to `high` bytes unescaped.
-pub fn find_part(written: &[u8], at: usize, low: usize, high: u32) -> Found
-    ensures { λ r. ⌜ r ≡ found low high at (now (written .entry)) ⌝ }
-{
-    let len = written.len();
-    let top = wide(high);
-    let s = scan_line(written);
-    let size = s.len;
-    let part = Part {
-        at: at,
-        len: len,
-        size: size,
-    };
-    let ok = s.ok & (low <= size) & (size <= top);
-    Found { ok: ok, part: part }
 }
 
 // With a value for the key that awaits it; an event with more pairs than may be is out of form.

@@ -1,15 +1,16 @@
 -- A description field by field.
 use Prim.Native.Nat.{ℕ}
-use lib.ListN.{getD}
+use lib.ListN.{getD, take}
 use Rattle.parts.specs.declared.Pair.{Pair}
 use Rattle.parts.specs.Parts.{noPair}
 use Rattle.event.specs.declared.Described.{Described}
+use Rattle.event.specs.Described.{valuesSize}
 use Rattle.shown.specs.declared.Head.{Head}
 use Rattle.shown.specs.declared.Attribute.{Attribute}
 
--- All but the attributes.
-unfoldable pub headOf : Described → Head
-headOf d =
+-- All but the attributes, with the lengths of their values together.
+unfoldable pub withSum : Described → ℕ → Head
+withSum d n =
     record {
       number = d .number;
       kind = d .kind;
@@ -18,10 +19,15 @@ headOf d =
       «name_len» = d .name .len;
       «name_size» = d .name .size;
       count = d .count;
+      values = n;
       «text_at» = d .text .at;
       «text_len» = d .text .len;
       «text_size» = d .text .size;
     }
+
+unfoldable pub headOf : Described → Head
+unfolding withSum valuesSize
+headOf d = withSum d (valuesSize (take (d .count) (d .pairs)))
 
 unfoldable pub attributeOf : Pair → Attribute
 attributeOf p =

@@ -1,9 +1,13 @@
 // What `describe` makes of an event's bytes, for C and Rust to look at: for tests and for measuring speed. The tally is only tested.
+use counted::one_if;
+use counted::plus;
 use event::Described;
 use event::describe;
+use event::values_len;
 use lines::next_event;
 use lines::part_of;
 use lines::unescape;
+use parts::place;
 ghost use mathlib.Core.Path.{_≡_};
 ghost use Rattle.parts.specs.Parts.{noPair};
 ghost use Rattle.event.specs.Described.{described};
@@ -14,24 +18,25 @@ pub struct Head {
     pub number: u32,
     pub kind: u32,
     pub tag: u32,
-    pub name_at: usize,
-    pub name_len: usize,
-    pub name_size: usize,
+    pub name_at: u16,
+    pub name_len: u16,
+    pub name_size: u16,
     pub count: usize,
-    pub text_at: usize,
-    pub text_len: usize,
-    pub text_size: usize,
+    pub values: usize,
+    pub text_at: u16,
+    pub text_len: u16,
+    pub text_size: u16,
 }
 
 #[repr(C)]
 pub struct Attribute {
     pub code: u32,
-    pub key_at: usize,
-    pub key_len: usize,
-    pub key_size: usize,
-    pub value_at: usize,
-    pub value_len: usize,
-    pub value_size: usize,
+    pub key_at: u16,
+    pub key_len: u16,
+    pub key_size: u16,
+    pub value_at: u16,
+    pub value_len: u16,
+    pub value_size: u16,
 }
 
 // Events of a stream: how many there are, are refused with 3 and with 4; attributes, and bytes of values and texts, unescaped.
@@ -57,6 +62,7 @@ pub extern "C" fn event_head(raw: &[u8]) -> Head
     let name_len = d.name.len;
     let name_size = d.name.size;
     let count = d.count;
+    let values = values_len(d);
     let text_at = d.text.at;
     let text_len = d.text.len;
     let text_size = d.text.size;
@@ -68,6 +74,7 @@ pub extern "C" fn event_head(raw: &[u8]) -> Head
         name_len: name_len,
         name_size: name_size,
         count: count,
+        values: values,
         text_at: text_at,
         text_len: text_len,
         text_size: text_size,
@@ -117,23 +124,6 @@ pub extern "C" fn event_attribute(raw: &[u8], i: usize) -> Attribute
     }
 }
 
-// A sum that stops growing before it could overflow.
-fn plus(x: u64, k: usize) -> u64 {
-    if x < 4_000_000_000 {
-        if k < 4_000_000_000 {
-            return x + k as u64;
-        }
-    }
-    x
-}
-
-fn one_if(b: bool) -> usize {
-    if b {
-        return 1;
-    }
-    0
-}
-
 // A sum with the lengths of the values, each of which is written into the buffer.
 fn write_values(raw: &[u8], d: Described, before: u64, buffer: &mut [u8]) -> u64 {
     let count = d.count;
@@ -145,8 +135,8 @@ fn write_values(raw: &[u8], d: Described, before: u64, buffer: &mut [u8]) -> u64
             return sum;
         }
         let p = pairs[i];
-        let at = p.value.at;
-        let len = p.value.len;
+        let at = place(p.value.at);
+        let len = place(p.value.len);
         let n = unescape(part_of(raw, at, len), buffer);
         sum = plus(sum, n);
         i += 1;
@@ -158,8 +148,8 @@ fn tally_event(raw: &[u8], t: Tally, buffer: &mut [u8]) -> Tally {
     let d = describe(raw);
     let number = d.number;
     let count = d.count;
-    let at = d.text.at;
-    let len = d.text.len;
+    let at = place(d.text.at);
+    let len = place(d.text.len);
     let sum = write_values(raw, d, t.bytes, buffer);
     let text = unescape(part_of(raw, at, len), buffer);
     let mut out = t;

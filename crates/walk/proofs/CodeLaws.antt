@@ -1,23 +1,28 @@
 -- What the functions need of the walk's definition.
-use Prim.Native.Nat.{ℕ, zero, suc, _+_, _≤_}
-use mathlib.Core.Path.{_≡_, refl, sym, ap, _∙_}
-use mathlib.Core.Bool.{Bool, true, false}
+use Prim.Native.Nat.{ℕ, zero, suc, _+_, _≤_, _<_}
+use mathlib.Core.Path.{_≡_, refl, sym, ap, ap₂, _∙_}
+use mathlib.Core.Bool.{Bool, true, false, _&&_}
 use mathlib.Core.Option.{Option, none, some}
 use mathlib.Core.List.{List, _++_}
 use native.Mathlib.Omega.{arith}
-use lib.ListN.{length, drop, length-append}
+use lib.Dec.{leb}
+use lib.ListN.{length, drop, length-append, length-drop}
 use lib.Seq.{drop-append-seam}
+use borrow.Author.Tests.{leb-true}
 use Rattle.definition.specs.Text.{str, placeIn}
 use Rattle.definition.specs.Elements.{tagOf, keyOf}
 use Rattle.definition.specs.Event as E
 use Rattle.definition.specs.Event.{Line, after, headed, lineOf, kindNames}
-use Rattle.definition.proofs.Base.{true-is-false}
+use Rattle.definition.proofs.Base.{true-is-false, and-right}
+use Rattle.lines.specs.declared.Scan.{Scan}
+use Rattle.lines.specs.Escapes.{scanned}
 use Rattle.lines.specs.Lines.{hasHead}
+use Rattle.parts.specs.declared.Part.{Part}
 use Rattle.parts.specs.declared.Walked.{Walked}
-use Rattle.parts.specs.declared.Found.{Found}
+use Rattle.walk.specs.declared.Found.{Found}
 use Rattle.parts.specs.Parts as P
-use Rattle.parts.specs.Parts.{found, withKind, withName, withKey, withText, addedValue}
-use Rattle.walk.specs.Walk.{nameFits, keyFits, valueFits, textFits, onEvent, onName, onKey, onValue, step}
+use Rattle.parts.specs.Parts.{partAt, withKind, withName, withKey, withText, addedValue}
+use Rattle.walk.specs.Walk.{fits, written, found, nameFits, keyFits, valueFits, textFits, onEvent, onName, onKey, onValue, step}
 use Rattle.walk.proofs.Standing.{after-split}
 
 -- ---- a line by its head
@@ -35,6 +40,10 @@ head-split h l e = go (after h l) refl
 
 pub head-length : (h l : List ℕ) → hasHead h l ≡ true → length h ≤ length l
 head-length h l e = omega (arith, ap length (head-split h l e), length-append h (drop (length h) l))
+
+-- What follows a head ends where the line ends.
+pub rest-fits : (h l x : List ℕ) (at top : ℕ) → hasHead h l ≡ true → x ≡ drop (length h) l → at + length l < top → at + length h + length x < top
+rest-fits h l x at top e ex k = omega (arith, k, head-length h l e, ap length ex ∙ length-drop (length h) l)
 
 module _ (l : List ℕ) where
   pub as-event : hasHead (str "event=") l ≡ true → lineOf l ≡ E.event (drop 6 l)
@@ -95,14 +104,46 @@ module _ (l : List ℕ) (at : ℕ) (d : Walked) where
 
 -- ---- a line in form, and one whose part is not within its limits
 
+module _ (low high at : ℕ) (x : List ℕ) where
+  found-by : (p : Bool) → fits low high (scanned x) ≡ p → found low high at x ≡ elim p as (λ q. Found) [ true ↦ record { ok = true; part = written at x } | false ↦ record { ok = false; part = partAt 0 0 0 } ]
+  unfolding found
+  found-by true e = rw (e, found)
+  found-by false e = rw (e, found)
+
+  fits-found : (p : Bool) → found low high at x .ok ≡ p → fits low high (scanned x) ≡ p
+  fits-found p e = go (fits low high (scanned x)) refl
+    where
+      go : (q : Bool) → fits low high (scanned x) ≡ q → q ≡ p
+      go true f = sym (ap (λ (y : Found). y .ok) (found-by true f)) ∙ e
+      go false f = sym (ap (λ (y : Found). y .ok) (found-by false f)) ∙ e
+
+  found-part : fits low high (scanned x) ≡ true → found low high at x .part ≡ written at x
+  found-part e = ap (λ (y : Found). y .part) (found-by true e)
+
+  -- As the code finds it.
+  module _ (top : ℕ) (s : Scan) (es : s ≡ scanned x) (et : top ≡ high) where
+    fits-is : (s .ok && leb low (s .len) && leb (s .len) top) ≡ fits low high (scanned x)
+    unfolding fits
+    fits-is = ap₂ (λ (q : Scan) (t : ℕ). q .ok && leb low (q .len) && leb (q .len) t) es et
+
+    pub not-found : (s .ok && leb low (s .len) && leb (s .len) top) ≡ false → record { ok = false; part = partAt 0 0 0 } ≡ found low high at x
+    not-found f = sym (found-by false (sym fits-is ∙ f))
+
+    pub is-found : (s .ok && leb low (s .len) && leb (s .len) top) ≡ true → record { ok = true; part = partAt at (length x) (s .len) } ≡ found low high at x
+    unfolding written
+    is-found f = ap (λ (q : Scan). record { ok = true; part = partAt at (length x) (q .len) }) es ∙ sym (found-by true (sym fits-is ∙ f))
+
+    pub size-small : (s .ok && leb low (s .len) && leb (s .len) top) ≡ true → s .len ≤ high
+    size-small f = omega (arith, et, leb-true (s .len) top (and-right (s .ok && leb low (s .len)) (leb (s .len) top) f))
+
 module _ (l : List ℕ) (at : ℕ) (d : Walked) (x : List ℕ) (m : Found) where
   module _ (e : hasHead (str "name=") l ≡ true) (ex : x ≡ drop 5 l) (em : m ≡ found 1 64 (at + 5) x) where
     name-by : (p : Bool) → m .ok ≡ p → onName at (lineOf l) d ≡ elim p as (λ q. Walked) [ true ↦ withName (tagOf x) (m .part) d | false ↦ P.broken d ]
     unfolding onName nameFits found
-    name-by p q = ap (λ (y : Line). onName at y d) (as-name l e ∙ ap E.name (sym ex)) ∙ go p (sym (ap (λ (y : Found). y .ok) em) ∙ q)
+    name-by p q = ap (λ (y : Line). onName at y d) (as-name l e ∙ ap E.name (sym ex)) ∙ go p (fits-found 1 64 (at + 5) x p (sym (ap (λ (y : Found). y .ok) em) ∙ q))
       where
         go : (p : Bool) → nameFits x ≡ p → onName at (E.name x) d ≡ elim p as (λ q. Walked) [ true ↦ withName (tagOf x) (m .part) d | false ↦ P.broken d ]
-        go true z = rw (z, onName) (ap (λ (y : Found). withName (tagOf x) (y .part) d) (sym em))
+        go true z = rw (z, onName) (ap (λ (y : Part). withName (tagOf x) y d) (sym (ap (λ (y : Found). y .part) em ∙ found-part 1 64 (at + 5) x z)))
         go false z = rw (z, onName)
 
     pub name-good : (g : ℕ) → g ≡ tagOf x → m .ok ≡ true → withName g (m .part) d ≡ onName at (lineOf l) d
@@ -114,10 +155,10 @@ module _ (l : List ℕ) (at : ℕ) (d : Walked) (x : List ℕ) (m : Found) where
   module _ (e : hasHead (str "text=") l ≡ true) (ex : x ≡ drop 5 l) (em : m ≡ found 0 4096 (at + 5) x) where
     text-by : (p : Bool) → m .ok ≡ p → onKey at (lineOf l) d ≡ elim p as (λ q. Walked) [ true ↦ withText (m .part) d | false ↦ P.broken d ]
     unfolding onKey textFits found
-    text-by p q = ap (λ (y : Line). onKey at y d) (as-text l e ∙ ap E.text (sym ex)) ∙ go p (sym (ap (λ (y : Found). y .ok) em) ∙ q)
+    text-by p q = ap (λ (y : Line). onKey at y d) (as-text l e ∙ ap E.text (sym ex)) ∙ go p (fits-found 0 4096 (at + 5) x p (sym (ap (λ (y : Found). y .ok) em) ∙ q))
       where
         go : (p : Bool) → textFits x ≡ p → onKey at (E.text x) d ≡ elim p as (λ q. Walked) [ true ↦ withText (m .part) d | false ↦ P.broken d ]
-        go true z = rw (z, onKey) (ap (λ (y : Found). withText (y .part) d) (sym em))
+        go true z = rw (z, onKey) (ap (λ (y : Part). withText y d) (sym (ap (λ (y : Found). y .part) em ∙ found-part 0 4096 (at + 5) x z)))
         go false z = rw (z, onKey)
 
     pub text-good : m .ok ≡ true → withText (m .part) d ≡ onKey at (lineOf l) d
@@ -129,10 +170,10 @@ module _ (l : List ℕ) (at : ℕ) (d : Walked) (x : List ℕ) (m : Found) where
   module _ (e : hasHead (str "key=") l ≡ true) (ex : x ≡ drop 4 l) (em : m ≡ found 1 64 (at + 4) x) where
     key-by : (p : Bool) → m .ok ≡ p → onKey at (lineOf l) d ≡ elim p as (λ q. Walked) [ true ↦ withKey (keyOf x) (m .part) d | false ↦ P.broken d ]
     unfolding onKey keyFits found
-    key-by p q = ap (λ (y : Line). onKey at y d) (as-key l e ∙ ap E.key (sym ex)) ∙ go p (sym (ap (λ (y : Found). y .ok) em) ∙ q)
+    key-by p q = ap (λ (y : Line). onKey at y d) (as-key l e ∙ ap E.key (sym ex)) ∙ go p (fits-found 1 64 (at + 4) x p (sym (ap (λ (y : Found). y .ok) em) ∙ q))
       where
         go : (p : Bool) → keyFits x ≡ p → onKey at (E.key x) d ≡ elim p as (λ q. Walked) [ true ↦ withKey (keyOf x) (m .part) d | false ↦ P.broken d ]
-        go true z = rw (z, onKey) (ap (λ (y : Found). withKey (keyOf x) (y .part) d) (sym em))
+        go true z = rw (z, onKey) (ap (λ (y : Part). withKey (keyOf x) y d) (sym (ap (λ (y : Found). y .part) em ∙ found-part 1 64 (at + 4) x z)))
         go false z = rw (z, onKey)
 
     pub key-good : (c : ℕ) → c ≡ keyOf x → m .ok ≡ true → withKey c (m .part) d ≡ onKey at (lineOf l) d
@@ -144,10 +185,10 @@ module _ (l : List ℕ) (at : ℕ) (d : Walked) (x : List ℕ) (m : Found) where
   module _ (e : hasHead (str "value=") l ≡ true) (ex : x ≡ drop 6 l) (em : m ≡ found 0 1024 (at + 6) x) where
     value-by : (p : Bool) → m .ok ≡ p → onValue at (lineOf l) d ≡ elim p as (λ q. Walked) [ true ↦ addedValue (m .part) d | false ↦ P.broken d ]
     unfolding onValue valueFits found
-    value-by p q = ap (λ (y : Line). onValue at y d) (as-value l e ∙ ap E.value (sym ex)) ∙ go p (sym (ap (λ (y : Found). y .ok) em) ∙ q)
+    value-by p q = ap (λ (y : Line). onValue at y d) (as-value l e ∙ ap E.value (sym ex)) ∙ go p (fits-found 0 1024 (at + 6) x p (sym (ap (λ (y : Found). y .ok) em) ∙ q))
       where
         go : (p : Bool) → valueFits x ≡ p → onValue at (E.value x) d ≡ elim p as (λ q. Walked) [ true ↦ addedValue (m .part) d | false ↦ P.broken d ]
-        go true z = rw (z, onValue) (ap (λ (y : Found). addedValue (y .part) d) (sym em))
+        go true z = rw (z, onValue) (ap (λ (y : Part). addedValue y d) (sym (ap (λ (y : Found). y .part) em ∙ found-part 0 1024 (at + 6) x z)))
         go false z = rw (z, onValue)
 
     pub value-good : m .ok ≡ true → addedValue (m .part) d ≡ onValue at (lineOf l) d

@@ -4,14 +4,15 @@ use mathlib.Core.Path.{_≡_, refl, sym, ap, ap₂, _∙_}
 use mathlib.Core.Bool.{Bool, true, false}
 use mathlib.Core.List.{List, [], _∷_, _++_, append-nil, append-assoc}
 use native.Mathlib.Omega.{arith}
-use lib.Dec.{eqb}
+use lib.Dec.{eqb, leb}
 use lib.ListN.{length, take, drop, length-drop, drop-of-length-le}
+use borrow.Author.Tests.{le-leb, lt-leb}
 use lib.Seq.{drop-drop, length-take-le}
 use Rattle.definition.specs.Event.{lineOf, linesFrom, tailFrom, isNil}
 use Rattle.lines.specs.Lines.{lineLength}
 use Rattle.parts.specs.declared.Walked.{Walked}
 use Rattle.parts.specs.Parts.{begun, broken}
-use Rattle.walk.specs.Walk.{Placed, line, placedLines, step, walk, walked}
+use Rattle.walk.specs.Walk.{Placed, line, placedLines, step, walk, walkedLines, walked}
 
 -- ---- the first line of what is left
 
@@ -121,14 +122,14 @@ module _ (raw : List ℕ) (at end : ℕ) (d : Walked) (l : Left raw at d) (e : e
       }
 
   -- The last line is not ended.
-  pub left-open : at < length raw → length raw ≤ end → broken d ≡ walked raw
-  unfolding walked linesFrom placedLines walk
+  pub left-open : at < length raw → length raw ≤ end → broken d ≡ walkedLines raw
+  unfolding walkedLines linesFrom placedLines walk
   left-open h k =
       let long : length (drop at raw) ≤ lineLength (drop at raw) = omega (arith, e, length-drop at raw, k) in
       let z : tailFrom [] raw ≡ drop at raw = sym (l .tail) ∙ tail-last [] (drop at raw) long in
       let y : isNil (tailFrom [] raw) ≡ false = ap isNil z ∙ not-nil (drop at raw) (omega (arith, length-drop at raw, h)) in
       let x : d ≡ walk (placedLines 0 (linesFrom [] raw)) begun = sym (ap (λ (t : List (List ℕ)). walk (placedLines at t) d) (lines-last [] (drop at raw) long)) ∙ l .rest in
-      rw (y, walked) (ap broken x)
+      rw (y, walkedLines) (ap broken x)
 
 -- All lines are read.
 module _ (raw : List ℕ) (at : ℕ) (d : Walked) (l : Left raw at d) (h : length raw ≤ at) where
@@ -136,8 +137,19 @@ module _ (raw : List ℕ) (at : ℕ) (d : Walked) (l : Left raw at d) (h : lengt
   unfolding isNil tailFrom
   left-closed = ap isNil (sym (l .tail) ∙ ap (tailFrom []) (drop-of-length-le raw h))
 
-  pub left-end : d ≡ walked raw
-  unfolding walked linesFrom placedLines walk
+  pub left-end : d ≡ walkedLines raw
+  unfolding walkedLines linesFrom placedLines walk
   left-end =
       let z : d ≡ walk (placedLines 0 (linesFrom [] raw)) begun = sym (ap (λ (t : List ℕ). walk (placedLines at (linesFrom [] t)) d) (drop-of-length-le raw h)) ∙ l .rest in
-      rw (left-closed, walked) z
+      rw (left-closed, walkedLines) z
+
+-- ---- the length of the event
+
+module _ (raw : List ℕ) (d : Walked) where
+  pub short-enough : length raw ≤ 49152 → d ≡ walkedLines raw → d ≡ walked raw
+  unfolding walked
+  short-enough h e = let z : leb (length raw) 49152 ≡ true = le-leb (length raw) 49152 h in rw (z, walked) e
+
+  pub too-long : 49152 < length raw → d ≡ begun → broken d ≡ walked raw
+  unfolding walked
+  too-long h e = let z : leb (length raw) 49152 ≡ false = lt-leb (length raw) 49152 h in rw (z, walked) (ap broken e)

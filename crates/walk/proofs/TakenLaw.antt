@@ -1,10 +1,12 @@
 -- THE LAW of the walk: what it carries at the end is the event that the definition reads.
-use Prim.Native.Nat.{ℕ, _+_, _≤_}
+use Prim.Native.Nat.{ℕ, _+_, _≤_, _<_}
 use mathlib.Core.Path.{_≡_, refl, sym, ap, _∙_, subst}
 use mathlib.Core.Bool.{Bool, true, false}
 use mathlib.Core.Option.{Option, none, some}
 use mathlib.Core.List.{List, [], _∷_, map}
 use lib.ListN.{length, take}
+use lib.Dec.{leb}
+use borrow.Author.Tests.{leb-false}
 use native.Mathlib.Omega.{arith}
 use Rattle.definition.specs.Text.{placeIn}
 use Rattle.definition.specs.Elements.{tagOf}
@@ -14,8 +16,8 @@ use Rattle.definition.proofs.Base.{none-is-some, some-inj}
 use Rattle.lines.specs.Escapes.{scanned}
 use Rattle.parts.specs.declared.Part.{Part}
 use Rattle.parts.specs.declared.Walked.{Walked}
-use Rattle.parts.specs.Parts.{written, begun, broken, withKind, withName}
-use Rattle.walk.specs.Walk.{Placed, line, placedLines, nameFits, onEvent, onName, step, walk, walked}
+use Rattle.parts.specs.Parts.{begun, broken, withKind, withName}
+use Rattle.walk.specs.Walk.{Placed, line, placedLines, written, nameFits, onEvent, onName, step, walk, walkedLines, walked}
 use Rattle.walk.proofs.Standing.{Stands, AllStand, cons, raw-stands, decoded, decoded-lines}
 use Rattle.walk.proofs.Plain.{tag-plain}
 use Rattle.walk.proofs.WalkLaw.{Fits, yes, no, fits-of, Reads, Pairs, no-pairs, TextReads, Kept, Fitting, Stopped, Went, good, bad, Before, walkAt, walk-at, walk-stays, stopped, body}
@@ -40,6 +42,7 @@ pub record Within (e : Event) : Type 0 where
 
 pub data Taken (raw : List ℕ) (w : Walked) (o : Option Event) : Type 0 where
   whole : (e : Event) → o ≡ some e → Within e → Carries raw w e → Taken raw w o
+  too-long : Stopped w → 49152 < length raw → Taken raw w o
   none-of : Stopped w → ((e : Event) → o ≡ some e → Within e → ⊥) → Taken raw w o
 
 with-split : (k : ℕ) (n : Option (List ℕ)) (o : Option Body) (e : Event) → eventWith k n o ≡ some e
@@ -121,25 +124,35 @@ module _ (raw : List ℕ) where
   taken-by (line at E.junk ∷ ls) s = nothing ls _ refl
 
   -- An event whose last line is ended.
-  pub taken : isNil (tailFrom [] raw) ≡ true → Taken raw (walked raw) (readEvent raw)
-  unfolding walked readEvent linesOf
+  taken : isNil (tailFrom [] raw) ≡ true → Taken raw (walkedLines raw) (readEvent raw)
+  unfolding walkedLines readEvent linesOf
   taken q =
       let z : readEvent raw ≡ eventOfLines (map decoded (placedLines 0 (linesFrom [] raw))) = rw (q, readEvent) (ap eventOfLines (sym (decoded-lines 0 (linesFrom [] raw)))) in
-      let y : walked raw ≡ walk (placedLines 0 (linesFrom [] raw)) begun = rw (q, walked) in
+      let y : walkedLines raw ≡ walk (placedLines 0 (linesFrom [] raw)) begun = rw (q, walkedLines) in
       subst (λ (w : Walked). Taken raw w (readEvent raw)) (sym y) (subst (Taken raw (walk (placedLines 0 (linesFrom [] raw)) begun)) (sym z) (taken-by (placedLines 0 (linesFrom [] raw)) (raw-stands raw)))
 
   -- An event whose last line is not.
-  pub not-ended : isNil (tailFrom [] raw) ≡ false → Taken raw (walked raw) (readEvent raw)
-  unfolding walked readEvent broken
+  not-ended : isNil (tailFrom [] raw) ≡ false → Taken raw (walkedLines raw) (readEvent raw)
+  unfolding walkedLines readEvent broken
   not-ended q =
       let z : readEvent raw ≡ none = rw (q, readEvent) in
-      let y : walked raw ≡ broken (walk (placedLines 0 (linesFrom [] raw)) begun) = rw (q, walked) in
-      none-of (stopped (walked raw) (ap (λ (w : Walked). w .next) y)) (λ e f g. none-is-some e (sym z ∙ f))
+      let y : walkedLines raw ≡ broken (walk (placedLines 0 (linesFrom [] raw)) begun) = rw (q, walkedLines) in
+      none-of (stopped (walkedLines raw) (ap (λ (w : Walked). w .next) y)) (λ e f g. none-is-some e (sym z ∙ f))
+
+  by-lines : Taken raw (walkedLines raw) (readEvent raw)
+  by-lines = go (isNil (tailFrom [] raw)) refl
+    where
+      go : (p : Bool) → isNil (tailFrom [] raw) ≡ p → Taken raw (walkedLines raw) (readEvent raw)
+      go true q = taken q
+      go false q = not-ended q
 
 -- What the walk carries, on all bytes.
 pub taken-law : (raw : List ℕ) → Taken raw (walked raw) (readEvent raw)
-taken-law raw = go (isNil (tailFrom [] raw)) refl
+unfolding walked broken
+taken-law raw = go (leb (length raw) 49152) refl
   where
-    go : (p : Bool) → isNil (tailFrom [] raw) ≡ p → Taken raw (walked raw) (readEvent raw)
-    go true q = taken raw q
-    go false q = not-ended raw q
+    go : (p : Bool) → leb (length raw) 49152 ≡ p → Taken raw (walked raw) (readEvent raw)
+    go true q = let y : walked raw ≡ walkedLines raw = rw (q, walked) in subst (λ (w : Walked). Taken raw w (readEvent raw)) (sym y) (by-lines raw)
+    go false q =
+        let y : walked raw ≡ broken begun = rw (q, walked) in
+        too-long (stopped (walked raw) (ap (λ (w : Walked). w .next) y)) (leb-false (length raw) 49152 q)

@@ -20,8 +20,8 @@ use Rattle.parts.specs.declared.Part.{Part}
 use Rattle.parts.specs.declared.Pair.{Pair}
 use Rattle.parts.specs.declared.Walked.{Walked}
 use Rattle.walk.specs.Walk as W
-use Rattle.parts.specs.Parts.{written, broken, withKey, withValue, withText, addedValue, fits, roomLeft}
-use Rattle.walk.specs.Walk.{Placed, line, keyFits, valueFits, onKey, onValue, step, walk}
+use Rattle.parts.specs.Parts.{broken, withKey, withValue, withText, addedValue, roomLeft}
+use Rattle.walk.specs.Walk.{Placed, line, written, fits, keyFits, valueFits, onKey, onValue, step, walk}
 use Rattle.walk.proofs.Standing.{Stands, AllStand, nil, cons, decoded}
 use Rattle.walk.proofs.Plain.{key-plain}
 

@@ -1,16 +1,20 @@
 -- An event's lines walked in order.
 use Prim.Native.Nat.{ℕ, zero, suc, _+_}
-use mathlib.Core.Bool.{Bool, true, false}
+use mathlib.Core.Bool.{Bool, true, false, _&&_}
 use mathlib.Core.List.{List, [], _∷_}
 use lib.ListN.{length}
+use lib.Dec.{leb}
 use Rattle.definition.specs.Limits.{limits01}
 use Rattle.definition.specs.Text.{placeIn}
 use Rattle.definition.specs.Elements.{tagOf, keyOf}
 use Rattle.definition.specs.Event as E
 use Rattle.definition.specs.Event.{Line, lineOf, linesFrom, tailFrom, isNil, kindNames}
+use Rattle.lines.specs.declared.Scan.{Scan}
 use Rattle.lines.specs.Escapes.{scanned}
+use Rattle.parts.specs.declared.Part.{Part}
 use Rattle.parts.specs.declared.Walked.{Walked}
-use Rattle.parts.specs.Parts.{begun, broken, withKind, withName, withKey, withText, addedValue, fits, written}
+use Rattle.parts.specs.Parts.{partAt, begun, broken, withKind, withName, withKey, withText, addedValue}
+use Rattle.walk.specs.declared.Found.{Found}
 
 -- A decoded line and where it begins.
 pub data Placed : Type 0 where
@@ -20,7 +24,24 @@ unfoldable pub placedLines : ℕ → List (List ℕ) → List Placed
 placedLines at [] = []
 placedLines at (l ∷ ls) = line at (lineOf l) ∷ placedLines (at + suc (length l)) ls
 
--- The limits of each part, and of the number of pairs.
+-- Whether what was scanned is legible and of a length within the limits.
+unfoldable pub fits : ℕ → ℕ → Scan → Bool
+fits low high s = s .ok && leb low (s .len) && leb (s .len) high
+
+-- What is written at a place, measured.
+unfoldable pub written : ℕ → List ℕ → Part
+unfolding scanned
+written at x = partAt at (length x) (scanned x .len)
+
+unfoldable pub found : ℕ → ℕ → ℕ → List ℕ → Found
+unfolding fits scanned written
+found low high at x =
+    elim (fits low high (scanned x)) [
+      | true ↦ record { ok = true; part = written at x }
+      | false ↦ record { ok = false; part = partAt 0 0 0 }
+    ]
+
+-- The limits of each part.
 unfoldable pub nameFits : List ℕ → Bool
 unfolding fits scanned
 nameFits n = fits 1 (limits01 .name) (scanned n)
@@ -88,9 +109,14 @@ unfolding step
 walk [] d = d
 walk (line at l ∷ ls) d = walk ls (step (d .next) at l d)
 
--- All lines; out of form where the last one is not ended.
-unfoldable pub walked : List ℕ → Walked
+-- The lines of an event; out of form where the last one is not ended.
+unfoldable pub walkedLines : List ℕ → Walked
 unfolding walk placedLines linesFrom begun broken tailFrom isNil
-walked raw =
+walkedLines raw =
     let w : Walked = walk (placedLines 0 (linesFrom [] raw)) begun in
     elim (isNil (tailFrom [] raw)) [ true ↦ w | false ↦ broken w ]
+
+-- "Event lines 49,152 bytes": an event in form is shorter, so this only keeps places small.
+unfoldable pub walked : List ℕ → Walked
+unfolding walkedLines begun broken
+walked raw = elim (leb (length raw) 49152) [ true ↦ walkedLines raw | false ↦ broken begun ]

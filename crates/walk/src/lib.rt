@@ -3,14 +3,16 @@ use definition::Chart;
 use lines::after_head;
 use lines::has_head;
 use lines::line_end;
+use lines::scan_line;
 use nesting::key_of;
 use nesting::tag_of;
+use parts::Part;
 use parts::Walked;
 use parts::add_value;
 use parts::break_off;
-use parts::find_part;
 use parts::kind_of;
 use parts::start;
+use parts::wide;
 ghost use mathlib.Core.Path.{_≡_};
 ghost use mathlib.Core.Bool.{true};
 ghost use Prim.Native.Nat.{_+_, _^_, _<_};
@@ -18,7 +20,45 @@ ghost use lib.ListN.{length};
 ghost use Rattle.definition.specs.Text.{str};
 ghost use Rattle.definition.specs.Event.{lineOf};
 ghost use Rattle.lines.specs.Lines.{hasHead};
-ghost use Rattle.walk.specs.Walk.{onEvent, onName, onKey, onValue, step, walked};
+ghost use Rattle.walk.specs.Walk.{found, onEvent, onName, onKey, onValue, step, walked};
+
+// A part, and whether it is legible and within its limits.
+pub struct Found {
+    pub ok: bool,
+    pub part: Part,
+}
+
+// What is written at `at`, if it is legible and of `low` to `high` bytes unescaped.
+fn find_part(written: &[u8], at: usize, low: usize, high: u32) -> Found
+    requires { ⌜ at + length (now written) < 2 ^ 16 ⌝ }
+    requires { ⌜ high < 2 ^ 16 ⌝ }
+    ensures { λ r. ⌜ r ≡ found low high at (now (written .entry)) ⌝ }
+{
+    let s = scan_line(written);
+    let size = s.len;
+    let top = wide(high);
+    if !(s.ok & (low <= size) & (size <= top)) {
+        let none = Part {
+            at: 0,
+            len: 0,
+            size: 0,
+        };
+        return Found {
+            ok: false,
+            part: none,
+        };
+    }
+    let len = written.len();
+    let part = Part {
+        at: at as u16,
+        len: len as u16,
+        size: size as u16,
+    };
+    Found {
+        ok: true,
+        part: part,
+    }
+}
 
 // One line more, by what may come.
 fn on_event(line: &[u8], d: Walked) -> Walked
@@ -35,7 +75,7 @@ fn on_event(line: &[u8], d: Walked) -> Walked
 }
 
 fn on_name(line: &[u8], at: usize, d: Walked) -> Walked
-    requires { ⌜ at + length (now line) < 2 ^ 64 ⌝ }
+    requires { ⌜ at + length (now line) < 2 ^ 16 ⌝ }
     ensures { λ r. ⌜ r ≡ onName at (lineOf (now (line .entry))) d ⌝ }
 {
     if !has_head(line, b"name=") {
@@ -56,7 +96,7 @@ fn on_name(line: &[u8], at: usize, d: Walked) -> Walked
 }
 
 fn on_text(line: &[u8], at: usize, d: Walked) -> Walked
-    requires { ⌜ at + length (now line) < 2 ^ 64 ⌝ }
+    requires { ⌜ at + length (now line) < 2 ^ 16 ⌝ }
     requires { ⌜ hasHead (str "text=") (now line) ≡ true ⌝ }
     ensures { λ r. ⌜ r ≡ onKey at (lineOf (now (line .entry))) d ⌝ }
 {
@@ -72,7 +112,7 @@ fn on_text(line: &[u8], at: usize, d: Walked) -> Walked
 }
 
 fn on_key(line: &[u8], at: usize, d: Walked) -> Walked
-    requires { ⌜ at + length (now line) < 2 ^ 64 ⌝ }
+    requires { ⌜ at + length (now line) < 2 ^ 16 ⌝ }
     ensures { λ r. ⌜ r ≡ onKey at (lineOf (now (line .entry))) d ⌝ }
 {
     if has_head(line, b"text=") {
@@ -96,7 +136,7 @@ fn on_key(line: &[u8], at: usize, d: Walked) -> Walked
 }
 
 fn on_value(line: &[u8], at: usize, d: Walked) -> Walked
-    requires { ⌜ at + length (now line) < 2 ^ 64 ⌝ }
+    requires { ⌜ at + length (now line) < 2 ^ 16 ⌝ }
     ensures { λ r. ⌜ r ≡ onValue at (lineOf (now (line .entry))) d ⌝ }
 {
     if !has_head(line, b"value=") {
@@ -112,7 +152,7 @@ fn on_value(line: &[u8], at: usize, d: Walked) -> Walked
 
 // What is known after the line that begins at `at`.
 fn step_on(line: &[u8], at: usize, d: Walked) -> Walked
-    requires { ⌜ at + length (now line) < 2 ^ 64 ⌝ }
+    requires { ⌜ at + length (now line) < 2 ^ 16 ⌝ }
     ensures { λ r. ⌜ r ≡ step (d .next) at (lineOf (now (line .entry))) d ⌝ }
 {
     let next = d.next;
@@ -131,11 +171,14 @@ fn step_on(line: &[u8], at: usize, d: Walked) -> Walked
     break_off(d)
 }
 
-// All lines of an event; it is out of form if its last line is not ended.
+// All lines of an event; it is out of form if it is too long or its last line is not ended.
 pub fn walk_lines(raw: &[u8]) -> Walked
     ensures { λ r. ⌜ r ≡ walked (now (raw .entry)) ⌝ }
 {
     let mut d = start();
+    if wide(Chart::EVENT) < raw.len() {
+        return break_off(d);
+    }
     let mut at = 0;
     while at < raw.len() {
         let end = line_end(raw, at);

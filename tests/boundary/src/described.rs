@@ -9,25 +9,26 @@ pub struct Head {
     pub number: u32,
     pub kind: u32,
     pub tag: u32,
-    pub name_at: usize,
-    pub name_len: usize,
-    pub name_size: usize,
+    pub name_at: u16,
+    pub name_len: u16,
+    pub name_size: u16,
     pub count: usize,
-    pub text_at: usize,
-    pub text_len: usize,
-    pub text_size: usize,
+    pub values: usize,
+    pub text_at: u16,
+    pub text_len: u16,
+    pub text_size: u16,
 }
 
 #[repr(C)]
 #[derive(Debug, Clone, Copy, PartialEq, Eq, Default)]
 pub struct Attribute {
     pub code: u32,
-    pub key_at: usize,
-    pub key_len: usize,
-    pub key_size: usize,
-    pub value_at: usize,
-    pub value_len: usize,
-    pub value_size: usize,
+    pub key_at: u16,
+    pub key_len: u16,
+    pub key_size: u16,
+    pub value_at: u16,
+    pub value_len: u16,
+    pub value_size: u16,
 }
 
 /// Counts over a stream's events.
@@ -64,27 +65,83 @@ pub fn tally(stream: &[u8]) -> Tally {
 
 /// Elements in the order of their numbers, from 1.
 pub const ELEMENTS: [&str; 27] = [
-    "scxml", "state", "parallel", "datamodel", "final", "history", "initial", "invoke", "data", "donedata", "finalize", "else", "elseif", "param", "content",
-    "transition", "onentry", "onexit", "send", "raise", "cancel", "log", "assign", "if", "foreach", "script", "include",
+    "scxml",
+    "state",
+    "parallel",
+    "datamodel",
+    "final",
+    "history",
+    "initial",
+    "invoke",
+    "data",
+    "donedata",
+    "finalize",
+    "else",
+    "elseif",
+    "param",
+    "content",
+    "transition",
+    "onentry",
+    "onexit",
+    "send",
+    "raise",
+    "cancel",
+    "log",
+    "assign",
+    "if",
+    "foreach",
+    "script",
+    "include",
 ];
 
 /// Keys likewise.
 pub const KEYS: [&str; 28] = [
-    "id", "initial", "name", "datamodel", "binding", "version", "type", "typeexpr", "src", "srcexpr", "idlocation", "namelist", "autoforward", "event",
-    "eventexpr", "cond", "target", "targetexpr", "expr", "array", "item", "index", "sendid", "sendidexpr", "delay", "delayexpr", "location", "label",
+    "id",
+    "initial",
+    "name",
+    "datamodel",
+    "binding",
+    "version",
+    "type",
+    "typeexpr",
+    "src",
+    "srcexpr",
+    "idlocation",
+    "namelist",
+    "autoforward",
+    "event",
+    "eventexpr",
+    "cond",
+    "target",
+    "targetexpr",
+    "expr",
+    "array",
+    "item",
+    "index",
+    "sendid",
+    "sendidexpr",
+    "delay",
+    "delayexpr",
+    "location",
+    "label",
 ];
 
 fn number_in(names: &[&str], name: &str) -> u32 {
     names.iter().position(|other| *other == name).map_or(0, |place| place as u32 + 1)
 }
 
+/// An event in form has at most 43,352 bytes.
+fn small(n: usize) -> u16 {
+    n.try_into().expect("an event in form is short")
+}
+
 /// Where each line's text stands, behind its head, and its length.
-fn places(raw: &[u8]) -> Vec<(usize, usize)> {
+fn places(raw: &[u8]) -> Vec<(u16, u16)> {
     let mut places = Vec::new();
     let mut at = 0;
     for line in raw.split_inclusive(|byte| *byte == 10) {
         let head = line.iter().position(|byte| *byte == b'=').map_or(0, |equals| equals + 1);
-        places.push((at + head, line.len() - head - 1));
+        places.push((small(at + head), small(line.len() - head - 1)));
         at += line.len();
     }
     places
@@ -102,10 +159,10 @@ pub fn expected(raw: &[u8]) -> (Head, Vec<Attribute>) {
         code: number_in(&KEYS, key),
         key_at: places[2 * i + 2].0,
         key_len: places[2 * i + 2].1,
-        key_size: key.len(),
+        key_size: small(key.len()),
         value_at: places[2 * i + 3].0,
         value_len: places[2 * i + 3].1,
-        value_size: value.len(),
+        value_size: small(value.len()),
     };
     let mut attributes: Vec<Attribute> = event.pairs.iter().enumerate().map(attribute).collect();
     attributes.push(Attribute::default());
@@ -116,11 +173,12 @@ pub fn expected(raw: &[u8]) -> (Head, Vec<Attribute>) {
         tag: number_in(&ELEMENTS, &event.name),
         name_at: places[1].0,
         name_len: places[1].1,
-        name_size: event.name.len(),
+        name_size: small(event.name.len()),
         count: event.pairs.len(),
+        values: event.pairs.iter().map(|(_, value)| value.len()).sum(),
         text_at,
         text_len,
-        text_size: event.text.map_or(0, |text| text.len()),
+        text_size: event.text.map_or(0, |text| small(text.len())),
     };
     (head, attributes)
 }

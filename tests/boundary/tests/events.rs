@@ -57,14 +57,31 @@ fn input() -> Vec<u8> {
 fn stored_input_and_output() {
     let folder = repository().join("crates/leafcount");
     let (c, t) = (expected(&input()), expected_tally(&input()));
-    let counts = [c.events, c.lines, c.illegible, c.bytes, c.known, c.keys, c.names, c.words, t.form, t.keys, t.pairs, t.bytes];
-    let labels = ["events", "lines", "illegible", "bytes", "known", "keys", "names", "words", "out of form", "repeated keys", "attributes", "values and texts"];
+    let counts =
+        [c.events, c.lines, c.illegible, c.bytes, c.known, c.keys, c.names, c.words, t.form, t.keys, t.pairs, t.bytes];
+    let labels = [
+        "events",
+        "lines",
+        "illegible",
+        "bytes",
+        "known",
+        "keys",
+        "names",
+        "words",
+        "out of form",
+        "repeated keys",
+        "attributes",
+        "values and texts",
+    ];
     let printed: String = labels.iter().zip(counts).map(|(label, count)| format!("{label}={count}\n")).collect();
     if std::env::var_os("LEAFCOUNT_WRITE").is_some() {
         std::fs::write(folder.join("stdin"), input()).expect("stdin");
         std::fs::write(folder.join("stdout"), &printed).expect("stdout");
     }
-    assert!(std::fs::read(folder.join("stdin")).expect("stdin") == input(), "crates/leafcount/stdin is not the recorded streams");
+    assert!(
+        std::fs::read(folder.join("stdin")).expect("stdin") == input(),
+        "crates/leafcount/stdin is not the recorded streams"
+    );
     assert_eq!(std::fs::read_to_string(folder.join("stdout")).expect("stdout"), printed);
 }
 
@@ -129,7 +146,8 @@ fn numbers() {
 fn repeated_keys() {
     for first in 0..5 {
         for second in 0..5 {
-            let keys: Vec<String> = (0..5).map(|i| if i == second { format!("k{first}") } else { format!("k{i}") }).collect();
+            let keys: Vec<String> =
+                (0..5).map(|i| if i == second { format!("k{first}") } else { format!("k{i}") }).collect();
             let pairs: String = keys.iter().map(|key| format!("key={key}\nvalue=v\n")).collect();
             check(format!("event=open\nname=x\n{pairs}").as_bytes(), &format!("key {second} as {first}"));
         }

@@ -1,16 +1,17 @@
-use lib.ListN.{length-map}
+use lib.ListN.{length-map, getD}
 use mathlib.Core.List.{List}
 use Rattle.definition.specs.Text.{same}
+use Rattle.definition.specs.Event.{legible}
+use Rattle.lines.specs.Parts.{orNothing}
+use Rattle.parts.specs.Parts.{noPair}
+use Rattle.event.specs.Described.{isAmong}
+use Rattle.event.proofs.KeyLaws.{key-read, keysFrom, among-more, among-stop, among-none, among-past}
 use Prim.Native.Nat.{ℕ, _≤_, _<_, _+_, _-_}
 use mathlib.Core.Path.{_≡_, refl, sym, ap, _∙_}
-use lib.ListN.{length, getD, take, drop}
+use lib.ListN.{length, drop}
 use native.Mathlib.Omega.{arith}
+use borrow.Author.Tests.{not-true, not-false}
 use borrow.Author.Needs.{needs}
-use Rattle.definition.specs.Event.{legible}
-use Rattle.lines.specs.Parts.{orNothing, part}
-use Rattle.parts.specs.Parts.{noPair}
-use Rattle.event.specs.Described.{read, pairKeys, isAmong}
-use Rattle.event.proofs.KeyLaws.{keysFrom, among-more, among-stop, among-none, among-past}
 use Rattle.event.proofs.key_repeats.Statement.{statement}
 use Rattle.event.proofs.key_repeats.Tie as tie
 
@@ -26,6 +27,12 @@ mul-p c = search needs
 array-copy-out-p : tie.Need-array-copy-out-p Inv-loop μ-loop
 array-copy-out-p c = search needs
 
+place-requires : tie.Need-place-requires Inv-loop μ-loop
+place-requires c κs = search needs
+
+place-requires-2 : tie.Need-place-requires-2 Inv-loop μ-loop
+place-requires-2 c κs = search needs
+
 part-of-requires : tie.Need-part-of-requires Inv-loop μ-loop
 part-of-requires c κs = search needs
 
@@ -36,14 +43,19 @@ loop-holds : tie.Need-loop-holds Inv-loop μ-loop
 loop-holds c = (search needs, refl)
 
 returns : tie.Need-returns Inv-loop μ-loop
-unfolding read part
-returns c = among-past (c .before .before .before .before .before .before .before .args .raw .now) (c .before .before .before .before .before .before .before .args .w .pairs) (c .before .before .before .before .before .before .before .args .w .count) (c .before .before .loop .j) (orNothing (legible (c .before .before .before .part-of .result .now))) (c .if1 .taken) ∙ c .before .before .loop .inv .1 ∙ ap (λ (x : List ℕ). isAmong (orNothing (legible x)) (keysFrom (c .before .before .before .before .before .before .before .args .raw .now) (c .before .before .before .before .before .before .before .args .w .pairs) (c .before .before .before .before .before .before .before .args .w .count) (c .before .before .before .before .before .before .before .args .i + 1))) (c .before .before .before .part-of .ensures)
+returns c = among-past (c .before .before .before .before .before .before .before .before .before .args .raw .now) (c .before .before .before .before .before .before .before .before .before .args .w .pairs) (c .before .before .before .before .before .before .before .before .before .args .w .count) (c .before .before .loop .j) (orNothing (legible (c .before .before .before .part-of .result .now))) (c .if1 .taken) ∙ c .before .before .loop .inv .1 ∙ ap (λ (x : List ℕ). isAmong x (keysFrom (c .before .before .before .before .before .before .before .before .before .args .raw .now) (c .before .before .before .before .before .before .before .before .before .args .w .pairs) (c .before .before .before .before .before .before .before .before .before .args .w .count) (c .before .before .before .before .before .before .before .before .before .args .i + 1))) (key-read (c .before .before .before .before .before .before .before .before .before .args .raw .now) (getD (c .before .before .before .before .before .before .before .before .before .args .w .pairs) (c .before .before .before .before .before .before .before .before .before .args .i) noPair .key) (c .before .before .before .before .before .place .result) (c .before .before .before .before .place2 .result) (c .before .before .before .part-of .result .now) (c .before .before .before .part-of .ensures) (c .before .before .before .before .before .place .ensures .0) (c .before .before .before .before .place2 .ensures .0))
 
 mul-q : tie.Need-mul-q Inv-loop μ-loop
 mul-q c = search needs
 
 array-copy-out-q : tie.Need-array-copy-out-q Inv-loop μ-loop
 array-copy-out-q c = search needs
+
+place-requires-3 : tie.Need-place-requires-3 Inv-loop μ-loop
+place-requires-3 c κs = search needs
+
+place-requires-4 : tie.Need-place-requires-4 Inv-loop μ-loop
+place-requires-4 c κs = search needs
 
 part-of-requires-2 : tie.Need-part-of-requires-2 Inv-loop μ-loop
 part-of-requires-2 c κs = search needs
@@ -52,9 +64,7 @@ same-text-requires : tie.Need-same-text-requires Inv-loop μ-loop
 same-text-requires c κs = search needs
 
 returns-2 : tie.Need-returns-2 Inv-loop μ-loop
-unfolding read part
-returns-2 c =
-    among-stop (c .before .before .before .before .before .before .before .before .before .before .before .args .raw .now) (c .before .before .before .before .before .before .before .before .before .before .before .args .w .pairs) (c .before .before .before .before .before .before .before .before .before .before .before .args .w .count) (c .before .before .before .before .before .before .loop .j) (orNothing (legible (c .before .before .before .before .before .before .before .part-of .result .now))) (c .before .before .before .before .if1 .left) (omega (arith, simp length-map at (c .before .before .before .before .before .before .before .before .before .before .before .good .1 .0 .1 .1 .1 .1 .1 .1 .1 .1 .1 .0 .1 .0 .1))) (ap (λ (x : List ℕ). same (orNothing (legible x)) (orNothing (legible (c .before .before .before .before .before .before .before .part-of .result .now)))) (sym (c .before .before .part-of2 .ensures)) ∙ sym (c .before .same-text .ensures) ∙ c .if2 .taken) ∙ c .before .before .before .before .before .before .loop .inv .1 ∙ ap (λ (x : List ℕ). isAmong (orNothing (legible x)) (keysFrom (c .before .before .before .before .before .before .before .before .before .before .before .args .raw .now) (c .before .before .before .before .before .before .before .before .before .before .before .args .w .pairs) (c .before .before .before .before .before .before .before .before .before .before .before .args .w .count) (c .before .before .before .before .before .before .before .before .before .before .before .args .i + 1))) (c .before .before .before .before .before .before .before .part-of .ensures)
+returns-2 c = among-stop (c .before .before .before .before .before .before .before .before .before .before .before .before .before .before .before .args .raw .now) (c .before .before .before .before .before .before .before .before .before .before .before .before .before .before .before .args .w .pairs) (c .before .before .before .before .before .before .before .before .before .before .before .before .before .before .before .args .w .count) (c .before .before .before .before .before .before .before .before .loop .j) (orNothing (legible (c .before .before .before .before .before .before .before .before .before .part-of .result .now))) (c .before .before .before .before .before .before .if1 .left) (omega (arith, simp length-map at (c .before .before .before .before .before .before .before .before .before .before .before .before .before .before .before .good .1 .0 .1 .1 .1 .1 .1 .1 .1 .1 .1 .0 .1 .0 .1))) (ap (λ (x : List ℕ). same x (orNothing (legible (c .before .before .before .before .before .before .before .before .before .part-of .result .now)))) (sym (key-read (c .before .before .before .before .before .before .before .before .before .before .before .before .before .before .before .args .raw .now) (getD (c .before .before .before .before .before .before .before .before .before .before .before .before .before .before .before .args .w .pairs) (c .before .before .before .before .before .before .before .before .loop .j) noPair .key) (c .before .before .before .before .place3 .result) (c .before .before .before .place4 .result) (c .before .before .part-of2 .result .now) (c .before .before .part-of2 .ensures) (c .before .before .before .before .place3 .ensures .0) (c .before .before .before .place4 .ensures .0))) ∙ sym (c .before .same-text .ensures) ∙ c .if2 .taken) ∙ c .before .before .before .before .before .before .before .before .loop .inv .1 ∙ ap (λ (x : List ℕ). isAmong x (keysFrom (c .before .before .before .before .before .before .before .before .before .before .before .before .before .before .before .args .raw .now) (c .before .before .before .before .before .before .before .before .before .before .before .before .before .before .before .args .w .pairs) (c .before .before .before .before .before .before .before .before .before .before .before .before .before .before .before .args .w .count) (c .before .before .before .before .before .before .before .before .before .before .before .before .before .before .before .args .i + 1))) (key-read (c .before .before .before .before .before .before .before .before .before .before .before .before .before .before .before .args .raw .now) (getD (c .before .before .before .before .before .before .before .before .before .before .before .before .before .before .before .args .w .pairs) (c .before .before .before .before .before .before .before .before .before .before .before .before .before .before .before .args .i) noPair .key) (c .before .before .before .before .before .before .before .before .before .before .before .place .result) (c .before .before .before .before .before .before .before .before .before .before .place2 .result) (c .before .before .before .before .before .before .before .before .before .part-of .result .now) (c .before .before .before .before .before .before .before .before .before .part-of .ensures) (c .before .before .before .before .before .before .before .before .before .before .before .place .ensures .0) (c .before .before .before .before .before .before .before .before .before .before .place2 .ensures .0))
 
 add-j-2 : tie.Need-add-j-2 Inv-loop μ-loop
 add-j-2 c = search needs
@@ -63,13 +73,10 @@ loop-less : tie.Need-loop-less Inv-loop μ-loop
 loop-less c = search needs
 
 loop-again : tie.Need-loop-again Inv-loop μ-loop
-unfolding read part
-loop-again c =
-    (search needs, among-more (c .before .before .before .before .before .before .before .before .before .before .before .args .raw .now) (c .before .before .before .before .before .before .before .before .before .before .before .args .w .pairs) (c .before .before .before .before .before .before .before .before .before .before .before .args .w .count) (c .before .before .before .before .before .before .loop .j) (orNothing (legible (c .before .before .before .before .before .before .before .part-of .result .now))) (c .before .before .before .before .if1 .left) (omega (arith, simp length-map at (c .before .before .before .before .before .before .before .before .before .before .before .good .1 .0 .1 .1 .1 .1 .1 .1 .1 .1 .1 .0 .1 .0 .1))) (ap (λ (x : List ℕ). same (orNothing (legible x)) (orNothing (legible (c .before .before .before .before .before .before .before .part-of .result .now)))) (sym (c .before .before .part-of2 .ensures)) ∙ sym (c .before .same-text .ensures) ∙ c .if2 .left) ∙ c .before .before .before .before .before .before .loop .inv .1)
+loop-again c = (search needs, among-more (c .before .before .before .before .before .before .before .before .before .before .before .before .before .before .before .args .raw .now) (c .before .before .before .before .before .before .before .before .before .before .before .before .before .before .before .args .w .pairs) (c .before .before .before .before .before .before .before .before .before .before .before .before .before .before .before .args .w .count) (c .before .before .before .before .before .before .before .before .loop .j) (orNothing (legible (c .before .before .before .before .before .before .before .before .before .part-of .result .now))) (c .before .before .before .before .before .before .if1 .left) (omega (arith, simp length-map at (c .before .before .before .before .before .before .before .before .before .before .before .before .before .before .before .good .1 .0 .1 .1 .1 .1 .1 .1 .1 .1 .1 .0 .1 .0 .1))) (ap (λ (x : List ℕ). same x (orNothing (legible (c .before .before .before .before .before .before .before .before .before .part-of .result .now)))) (sym (key-read (c .before .before .before .before .before .before .before .before .before .before .before .before .before .before .before .args .raw .now) (getD (c .before .before .before .before .before .before .before .before .before .before .before .before .before .before .before .args .w .pairs) (c .before .before .before .before .before .before .before .before .loop .j) noPair .key) (c .before .before .before .before .place3 .result) (c .before .before .before .place4 .result) (c .before .before .part-of2 .result .now) (c .before .before .part-of2 .ensures) (c .before .before .before .before .place3 .ensures .0) (c .before .before .before .place4 .ensures .0))) ∙ sym (c .before .same-text .ensures) ∙ c .if2 .left) ∙ c .before .before .before .before .before .before .before .before .loop .inv .1)
 
 returns-3 : tie.Need-returns-3 Inv-loop μ-loop
-unfolding read part
-returns-3 c = among-none (c .before .before .before .before .before .before .args .raw .now) (c .before .before .before .before .before .before .args .w .pairs) (c .before .before .before .before .before .before .args .w .count) (c .before .loop .j) (orNothing (legible (c .before .before .part-of .result .now))) (omega (arith, simp length-map at (c .before .before .before .before .before .before .good .1 .0 .1 .1 .1 .1 .1 .1 .1 .1 .1 .0 .1 .0 .1))) ∙ c .before .loop .inv .1 ∙ ap (λ (x : List ℕ). isAmong (orNothing (legible x)) (keysFrom (c .before .before .before .before .before .before .args .raw .now) (c .before .before .before .before .before .before .args .w .pairs) (c .before .before .before .before .before .before .args .w .count) (c .before .before .before .before .before .before .args .i + 1))) (c .before .before .part-of .ensures)
+returns-3 c = among-none (c .before .before .before .before .before .before .before .before .args .raw .now) (c .before .before .before .before .before .before .before .before .args .w .pairs) (c .before .before .before .before .before .before .before .before .args .w .count) (c .before .loop .j) (orNothing (legible (c .before .before .part-of .result .now))) (omega (arith, simp length-map at (c .before .before .before .before .before .before .before .before .good .1 .0 .1 .1 .1 .1 .1 .1 .1 .1 .1 .0 .1 .0 .1))) ∙ c .before .loop .inv .1 ∙ ap (λ (x : List ℕ). isAmong x (keysFrom (c .before .before .before .before .before .before .before .before .args .raw .now) (c .before .before .before .before .before .before .before .before .args .w .pairs) (c .before .before .before .before .before .before .before .before .args .w .count) (c .before .before .before .before .before .before .before .before .args .i + 1))) (key-read (c .before .before .before .before .before .before .before .before .args .raw .now) (getD (c .before .before .before .before .before .before .before .before .args .w .pairs) (c .before .before .before .before .before .before .before .before .args .i) noPair .key) (c .before .before .before .before .place .result) (c .before .before .before .place2 .result) (c .before .before .part-of .result .now) (c .before .before .part-of .ensures) (c .before .before .before .before .place .ensures .0) (c .before .before .before .place2 .ensures .0))
 
 pub key-repeats-spec : {M : Type 1} → statement M
 key-repeats-spec =
@@ -79,12 +86,16 @@ key-repeats-spec =
     μ-loop
     mul-p
     array-copy-out-p
+    place-requires
+    place-requires-2
     part-of-requires
     add-j
     loop-holds
     returns
     mul-q
     array-copy-out-q
+    place-requires-3
+    place-requires-4
     part-of-requires-2
     same-text-requires
     returns-2

@@ -8,64 +8,64 @@ use borrow.Author.Needs.{needs}
 use Rattle.parts.proofs.kind_of.Statement.{statement}
 use Rattle.parts.proofs.kind_of.Tie as tie
 
-slice-aggregate-same-bytes : tie.Need-slice-aggregate-same-bytes
-slice-aggregate-same-bytes c = search needs
+slice-aggregate-same : tie.Need-slice-aggregate-same
+slice-aggregate-same c = search needs
 
-same-bytes-requires : tie.Need-same-bytes-requires
-same-bytes-requires c κs = tt
+same-requires : tie.Need-same-requires
+same-requires c κs = tt
 
 returns : tie.Need-returns
 unfolding str
-returns c = kind-open _ (sym (c .before .same-bytes .ensures) ∙ c .if1 .taken)
+returns c = kind-open _ (sym (c .before .same .ensures) ∙ c .if1 .taken)
 
-slice-aggregate-same-bytes-2 : tie.Need-slice-aggregate-same-bytes-2
-slice-aggregate-same-bytes-2 c = search needs
+slice-aggregate-same-2 : tie.Need-slice-aggregate-same-2
+slice-aggregate-same-2 c = search needs
 
-same-bytes-requires-2 : tie.Need-same-bytes-requires-2
-same-bytes-requires-2 c κs = tt
+same-requires-2 : tie.Need-same-requires-2
+same-requires-2 c κs = tt
 
 returns-2 : tie.Need-returns-2
 unfolding str
-returns-2 c = kind-empty _ (sym (c .before .before .before .before .same-bytes .ensures) ∙ c .before .before .before .if1 .left) (sym (c .before .same-bytes2 .ensures) ∙ c .if2 .taken)
+returns-2 c = kind-empty _ (sym (c .before .before .before .before .same .ensures) ∙ c .before .before .before .if1 .left) (sym (c .before .same2 .ensures) ∙ c .if2 .taken)
 
-slice-aggregate-same-bytes-3 : tie.Need-slice-aggregate-same-bytes-3
-slice-aggregate-same-bytes-3 c = search needs
+slice-aggregate-same-3 : tie.Need-slice-aggregate-same-3
+slice-aggregate-same-3 c = search needs
 
-same-bytes-requires-3 : tie.Need-same-bytes-requires-3
-same-bytes-requires-3 c κs = tt
+same-requires-3 : tie.Need-same-requires-3
+same-requires-3 c κs = tt
 
 returns-3 : tie.Need-returns-3
 unfolding str
-returns-3 c = kind-whole _ (sym (c .before .before .before .before .before .before .before .same-bytes .ensures) ∙ c .before .before .before .before .before .before .if1 .left) (sym (c .before .before .before .before .same-bytes2 .ensures) ∙ c .before .before .before .if2 .left) (sym (c .before .same-bytes3 .ensures) ∙ c .if3 .taken)
+returns-3 c = kind-whole _ (sym (c .before .before .before .before .before .before .before .same .ensures) ∙ c .before .before .before .before .before .before .if1 .left) (sym (c .before .before .before .before .same2 .ensures) ∙ c .before .before .before .if2 .left) (sym (c .before .same3 .ensures) ∙ c .if3 .taken)
 
-slice-aggregate-same-bytes-4 : tie.Need-slice-aggregate-same-bytes-4
-slice-aggregate-same-bytes-4 c = search needs
+slice-aggregate-same-4 : tie.Need-slice-aggregate-same-4
+slice-aggregate-same-4 c = search needs
 
-same-bytes-requires-4 : tie.Need-same-bytes-requires-4
-same-bytes-requires-4 c κs = tt
+same-requires-4 : tie.Need-same-requires-4
+same-requires-4 c κs = tt
 
 returns-4 : tie.Need-returns-4
 unfolding str
-returns-4 c = kind-end _ (sym (c .before .before .before .before .before .before .before .before .before .before .same-bytes .ensures) ∙ c .before .before .before .before .before .before .before .before .before .if1 .left) (sym (c .before .before .before .before .before .before .before .same-bytes2 .ensures) ∙ c .before .before .before .before .before .before .if2 .left) (sym (c .before .before .before .before .same-bytes3 .ensures) ∙ c .before .before .before .if3 .left) (sym (c .before .same-bytes4 .ensures) ∙ c .if4 .taken)
+returns-4 c = kind-end _ (sym (c .before .before .before .before .before .before .before .before .before .before .same .ensures) ∙ c .before .before .before .before .before .before .before .before .before .if1 .left) (sym (c .before .before .before .before .before .before .before .same2 .ensures) ∙ c .before .before .before .before .before .before .if2 .left) (sym (c .before .before .before .before .same3 .ensures) ∙ c .before .before .before .if3 .left) (sym (c .before .same4 .ensures) ∙ c .if4 .taken)
 
 returns-5 : tie.Need-returns-5
 unfolding str
-returns-5 c = kind-none _ (sym (c .before .before .before .before .before .before .before .before .before .before .same-bytes .ensures) ∙ c .before .before .before .before .before .before .before .before .before .if1 .left) (sym (c .before .before .before .before .before .before .before .same-bytes2 .ensures) ∙ c .before .before .before .before .before .before .if2 .left) (sym (c .before .before .before .before .same-bytes3 .ensures) ∙ c .before .before .before .if3 .left) (sym (c .before .same-bytes4 .ensures) ∙ c .if4 .left)
+returns-5 c = kind-none _ (sym (c .before .before .before .before .before .before .before .before .before .before .same .ensures) ∙ c .before .before .before .before .before .before .before .before .before .if1 .left) (sym (c .before .before .before .before .before .before .before .same2 .ensures) ∙ c .before .before .before .before .before .before .if2 .left) (sym (c .before .before .before .before .same3 .ensures) ∙ c .before .before .before .if3 .left) (sym (c .before .same4 .ensures) ∙ c .if4 .left)
 
 pub kind-of-spec : {M : Type 1} → statement M
 kind-of-spec =
     tie.close
     (tie.spec
-    slice-aggregate-same-bytes
-    same-bytes-requires
+    slice-aggregate-same
+    same-requires
     returns
-    slice-aggregate-same-bytes-2
-    same-bytes-requires-2
+    slice-aggregate-same-2
+    same-requires-2
     returns-2
-    slice-aggregate-same-bytes-3
-    same-bytes-requires-3
+    slice-aggregate-same-3
+    same-requires-3
     returns-3
-    slice-aggregate-same-bytes-4
-    same-bytes-requires-4
+    slice-aggregate-same-4
+    same-requires-4
     returns-4
     returns-5)

@@ -28,6 +28,12 @@ mul-p c = search needs
 array-copy-out-p : tie.Need-array-copy-out-p Inv-loop μ-loop
 array-copy-out-p c = search needs
 
+place-requires : tie.Need-place-requires Inv-loop μ-loop
+place-requires c κs = search needs
+
+place-requires-2 : tie.Need-place-requires-2 Inv-loop μ-loop
+place-requires-2 c κs = search needs
+
 part-of-requires : tie.Need-part-of-requires Inv-loop μ-loop
 part-of-requires c κs = search needs
 
@@ -63,6 +69,8 @@ write-values-spec =
     returns
     mul-p
     array-copy-out-p
+    place-requires
+    place-requires-2
     part-of-requires
     unescape-requires
     plus-requires

@@ -1,4 +1,4 @@
-use Rattle.walk.proofs.CodeLaws.{not-key, key-bad, key-good, head-length}
+use Rattle.walk.proofs.CodeLaws.{not-key, key-bad, key-good, head-length, rest-fits}
 use Rattle.definition.specs.Text.{str}
 use Rattle.parts.specs.Parts.{withKey}
 use Prim.Native.Nat.{ℕ, _≤_, _<_, _+_, _-_}
@@ -45,7 +45,8 @@ unfolding str
 add-find-part c = omega (arith, c .before .before .before .before .before .before .before .before .pre, head-length (str "key=") (c .before .before .before .before .before .before .before .before .args .line .now) (sym (c .before .before .has-head2 .ensures) ∙ not-false _ (c .before .if2 .left)))
 
 find-part-requires : tie.Need-find-part-requires
-find-part-requires c κs = tt
+unfolding str
+find-part-requires c κs = (rest-fits (str "key=") (c .before .before .before .before .before .before .before .before .args .line .now) (c .after-head .result .now) (c .before .before .before .before .before .before .before .before .args .at) _ (sym (c .before .before .has-head2 .ensures) ∙ not-false _ (c .before .if2 .left)) (c .after-head .ensures) (c .before .before .before .before .before .before .before .before .pre), omega arith)
 
 break-off-requires-2 : tie.Need-break-off-requires-2
 break-off-requires-2 c κs = tt

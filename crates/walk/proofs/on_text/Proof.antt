@@ -1,4 +1,4 @@
-use Rattle.walk.proofs.CodeLaws.{text-bad, text-good, head-length}
+use Rattle.walk.proofs.CodeLaws.{text-bad, text-good, head-length, rest-fits}
 use Rattle.definition.specs.Text.{str}
 use Rattle.parts.specs.Parts.{withText}
 use Prim.Native.Nat.{ℕ, _≤_, _<_, _+_, _-_}
@@ -19,7 +19,8 @@ unfolding str
 add-find-part c = omega (arith, c .before .before .pre .0, head-length (str "text=") (c .before .before .args .line .now) (c .before .before .pre .1))
 
 find-part-requires : tie.Need-find-part-requires
-find-part-requires c κs = tt
+unfolding str
+find-part-requires c κs = (rest-fits (str "text=") (c .before .before .args .line .now) (c .after-head .result .now) (c .before .before .args .at) _ (c .before .before .pre .1) (c .after-head .ensures) (c .before .before .pre .0), omega arith)
 
 break-off-requires : tie.Need-break-off-requires
 break-off-requires c κs = tt

@@ -9,7 +9,8 @@ use std::hint::black_box;
 use std::process::ExitCode;
 use std::time::Instant;
 
-const NAMES: [&str; 4] = ["leaves, proved", "the same counts in Rust", "describe and unescape, proved", "the judge's parser"];
+const NAMES: [&str; 4] =
+    ["leaves, proved", "the same counts in Rust", "describe and unescape, proved", "the judge's parser"];
 
 fn seconds(work: impl FnOnce()) -> f64 {
     let begin = Instant::now();
@@ -49,7 +50,12 @@ fn main() -> ExitCode {
         println!("{name}: {:.1} MB/s", stream.len() as f64 / 1e6 / median(&rounds, which));
     }
     for ours in [0, 2] {
-        println!("{} is {:.2} times as fast as {}", NAMES[ours], median(&rounds, ours + 1) / median(&rounds, ours), NAMES[ours + 1]);
+        println!(
+            "{} is {:.2} times as fast as {}",
+            NAMES[ours],
+            median(&rounds, ours + 1) / median(&rounds, ours),
+            NAMES[ours + 1]
+        );
     }
     ExitCode::SUCCESS
 }

@@ -1,0 +1,36 @@
+use Rattle.walk.proofs.CodeLaws.{not-found, is-found, size-small}
+use Prim.Native.Nat.{ℕ, _≤_, _<_, _+_, _-_}
+use mathlib.Core.Path.{_≡_, refl, sym, ap, _∙_}
+use lib.ListN.{length, drop}
+use native.Mathlib.Omega.{arith}
+use borrow.Author.Tests.{not-true, not-false}
+use borrow.Author.Needs.{needs}
+use borrow.Author.Needs.{needs}
+use Rattle.walk.proofs.find_part.Statement.{statement}
+use Rattle.walk.proofs.find_part.Tie as tie
+
+scan-line-requires : tie.Need-scan-line-requires
+scan-line-requires c κs = search needs
+
+wide-requires : tie.Need-wide-requires
+wide-requires c κs = search needs
+
+returns : tie.Need-returns
+returns c = not-found (c .before .before .before .before .before .args .low) (c .before .before .before .before .before .args .high) (c .before .before .before .before .before .args .at) (c .before .before .before .before .before .args .written .now) (c .before .before .wide .result) (c .before .before .before .scan-line .result) (c .before .before .before .scan-line .ensures) (c .before .before .wide .ensures) (not-true _ (c .if1 .taken))
+
+cast-t16 : tie.Need-cast-t16
+cast-t16 c = search needs
+
+cast-t17 : tie.Need-cast-t17
+cast-t17 c = search needs
+
+cast-t18 : tie.Need-cast-t18
+cast-t18 c = omega (arith, c .before .before .before .before .before .pre .1, size-small (c .before .before .before .before .before .args .low) (c .before .before .before .before .before .args .high) (c .before .before .before .before .before .args .at) (c .before .before .before .before .before .args .written .now) (c .before .before .wide .result) (c .before .before .before .scan-line .result) (c .before .before .before .scan-line .ensures) (c .before .before .wide .ensures) (not-false _ (c .if1 .left)))
+
+returns-2 : tie.Need-returns-2
+returns-2 c = is-found (c .before .before .before .before .before .args .low) (c .before .before .before .before .before .args .high) (c .before .before .before .before .before .args .at) (c .before .before .before .before .before .args .written .now) (c .before .before .wide .result) (c .before .before .before .scan-line .result) (c .before .before .before .scan-line .ensures) (c .before .before .wide .ensures) (not-false _ (c .if1 .left))
+
+pub find-part-spec : {M : Type 1} → statement M
+find-part-spec =
+    tie.close
+    (tie.spec scan-line-requires wide-requires returns cast-t16 cast-t17 cast-t18 returns-2)
