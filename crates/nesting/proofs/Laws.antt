@@ -7,7 +7,7 @@ use native.Mathlib.Nat.{add-zero}
 use native.Mathlib.Numerals.{add-one}
 use native.Mathlib.Omega.{arith}
 use lib.Dec.{eqb, ltb}
-use lib.ListN.{length, getD, drop, drop-of-length-le, length-map, List·getD-map, replicate, getD-replicate}
+use lib.ListN.{length, getD, drop, drop-of-length-le, length-map, List·getD-map}
 use lib.Seq.{drop-cons}
 use borrow.Author.Tests.{ltb-true, lt-ltb, le-ltb, eq-eqb, ne-eqb, eqb-true}
 use Rattle.text.proofs.Laws.{place-here, place-next, place-none}
@@ -117,14 +117,10 @@ nesting-numbered : numbered 2 nesting ≡ true
 unfolding numbered nesting
 nesting-numbered = refl
 
--- Each row of the array holds the parents of the definition, and seven numbers.
+-- Each row of the array holds the parents of the definition.
 rows-fit : map listed parentRows ≡ parentsOf
 unfolding listed parentRows parentRow parentsOf nesting
 rows-fit = refl
-
-rows-wide : map (length {A = ℕ}) parentRows ≡ replicate 25 7
-unfolding parentRows parentRow parentsOf nesting
-rows-wide = refl
 
 rows-long : length nesting ≡ 25
 unfolding nesting
@@ -137,9 +133,6 @@ no-parents = refl
 pub row-listed : (r : ℕ) → listed (getD parentRows r []) ≡ getD parentsOf r []
 row-listed r =
     sym (ap (λ (d : List ℕ). getD (map listed parentRows) r d) (sym no-parents) ∙ List·getD-map listed parentRows r []) ∙ ap (λ (l : List (List ℕ)). getD l r []) rows-fit
-
-pub row-wide : (r : ℕ) → r < 25 → length (getD parentRows r []) ≡ 7
-row-wide r h = sym (List·getD-map (length {A = ℕ}) parentRows r []) ∙ ap (λ (l : List ℕ). getD l r 0) rows-wide ∙ getD-replicate 25 r 7 0 h
 
 both : (a b : Bool) → (a && b) ≡ true → (a ≡ true) × (b ≡ true)
 both true b h = (refl, h)

@@ -8,7 +8,7 @@ ghost use Rattle.definition.specs.Text.{same};
 ghost use Rattle.definition.specs.Elements.{among, numberIn, tagOf, keyOf, holdsText, namesState};
 ghost use Rattle.definition.specs.Nesting.{parentAllowed};
 ghost use Rattle.nesting.specs.Ids.{rowOf, root};
-ghost use Rattle.nesting.specs.Tables.{rowName, parentRows, parentsOf};
+ghost use Rattle.nesting.specs.Tables.{rowName, parentRows, listed};
 
 // Elements in the order of their numbers, from 1: length, name, spaces.
 const ELEMENTS: [[u8; 12]; 27] = [
@@ -176,21 +176,20 @@ fn number(x: u8) -> u32
     x as u32
 }
 
-fn parent_at(row: usize, i: usize) -> u32
-    requires { ⌜ (row < 25) × (i < 7) ⌝ }
-    ensures { λ r. ⌜ r ≡ getD (getD parentRows row []) i 0 ⌝ }
+fn parents_at(row: usize) -> [u8; 7]
+    requires { ⌜ row < 25 ⌝ }
+    ensures { λ r. ⌜ r ≡ getD parentRows row [] ⌝ }
 {
-    number(NESTING[row][i])
+    NESTING[row]
 }
 
 // Whether parent is one of a row's, which end at the first zero.
-fn is_in_row(row: usize, parent: u32) -> bool
-    requires { ⌜ row < 25 ⌝ }
-    ensures { λ r. ⌜ r ≡ among parent (getD parentsOf row []) ⌝ }
+fn is_listed(row: [u8; 7], parent: u32) -> bool
+    ensures { λ r. ⌜ r ≡ among parent (listed row) ⌝ }
 {
     let mut i = 0;
     while i < 7 {
-        let p = parent_at(row, i);
+        let p = number(row[i]);
         if p == 0 {
             return false;
         }
@@ -212,7 +211,7 @@ pub fn parent_allowed(tag: u32, parent: u32) -> bool
     if 26 < tag {
         return true;
     }
-    is_in_row(wide(tag - 2), parent)
+    is_listed(parents_at(wide(tag - 2)), parent)
 }
 
 // data, script, content, assign: come as `whole` or `empty`.

@@ -1,11 +1,14 @@
-use Rattle.definition.specs.Elements.{among}
-use Rattle.nesting.specs.Tables.{parentsOf}
-use Rattle.nesting.proofs.Laws.{free-below, free-above, in-table}
-use Prim.Native.Nat.{ℕ}
-use mathlib.Core.Path.{_∙_, ap}
-use mathlib.Core.List.{[]}
-use borrow.Author.Needs.{needs}
+use mathlib.Core.List.{List, []}
 use lib.ListN.{getD}
+use Rattle.definition.specs.Elements.{among}
+use Rattle.nesting.specs.Tables.{parentRows, listed}
+use Rattle.nesting.proofs.Laws.{free-below, free-above, row-listed, in-table}
+use Prim.Native.Nat.{ℕ, _≤_, _<_, _+_, _-_}
+use mathlib.Core.Path.{_≡_, refl, sym, ap, _∙_}
+use lib.ListN.{length, drop}
+use native.Mathlib.Omega.{arith}
+use borrow.Author.Tests.{not-true, not-false}
+use borrow.Author.Needs.{needs}
 use borrow.Author.Needs.{needs}
 use Rattle.nesting.proofs.parent_allowed.Statement.{statement}
 use Rattle.nesting.proofs.parent_allowed.Tie as tie
@@ -19,12 +22,16 @@ returns-2 c = free-above _ _ (c .if2 .taken)
 wide-requires : tie.Need-wide-requires
 wide-requires c κs = search needs
 
-is-in-row-requires : tie.Need-is-in-row-requires
-is-in-row-requires c κs = search needs
+parents-at-requires : tie.Need-parents-at-requires
+parents-at-requires c κs = search needs
+
+is-listed-requires : tie.Need-is-listed-requires
+is-listed-requires c κs = search needs
 
 returns-3 : tie.Need-returns-3
-returns-3 c = c .is-in-row .ensures ∙ ap (λ (r : ℕ). among (c .before .before .before .before .args .parent) (getD parentsOf r [])) (c .before .wide .ensures) ∙ in-table _ _ (c .before .before .before .if1 .left) (c .before .before .if2 .left)
+returns-3 c = c .is-listed .ensures ∙ ap (λ (l : List ℕ). among (c .before .before .before .before .before .args .parent) (listed l)) (c .before .parents-at .ensures ∙ ap (λ (r : ℕ). getD parentRows r []) (c .before .before .wide .ensures)) ∙ ap (among (c .before .before .before .before .before .args .parent)) (row-listed _) ∙ in-table _ _ (c .before .before .before .before .if1 .left) (c .before .before .before .if2 .left)
 
 pub parent-allowed-spec : {M : Type 1} → statement M
 parent-allowed-spec =
-    tie.close (tie.spec returns returns-2 wide-requires is-in-row-requires returns-3)
+    tie.close
+    (tie.spec returns returns-2 wide-requires parents-at-requires is-listed-requires returns-3)
