@@ -3,7 +3,6 @@ use Prim.Native.Nat.{ℕ, _≤_, _<_}
 use mathlib.Core.Path.{_≡_}
 use mathlib.Core.Bool.{Bool, true, false}
 use mathlib.Core.List.{List}
-use lib.Dec.{ltb}
 use borrow.Author.Tests.{lt-ltb, le-ltb}
 use Rattle.definition.specs.Text.{str, same, placeIn}
 use Rattle.definition.specs.Event.{kindNames}
@@ -39,8 +38,8 @@ module _ (w : List ℕ) where
 
 pub value-full : (p : Part) (d : Walked) → 16 ≤ d .count → P.broken d ≡ addedValue p d
 unfolding addedValue roomLeft
-value-full p d h = let z : ltb (d .count) 16 ≡ false = le-ltb (d .count) 16 h in rw (z, addedValue)
+value-full p d h = let z : roomLeft (d .count) ≡ false = le-ltb (d .count) 16 h in rw (z, addedValue)
 
 pub value-added : (p : Part) (d : Walked) → d .count < 16 → withValue p d ≡ addedValue p d
 unfolding addedValue roomLeft
-value-added p d h = let z : ltb (d .count) 16 ≡ true = lt-ltb (d .count) 16 h in rw (z, addedValue)
+value-added p d h = let z : roomLeft (d .count) ≡ true = lt-ltb (d .count) 16 h in rw (z, addedValue)

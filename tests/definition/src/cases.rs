@@ -33,7 +33,11 @@ impl Case {
         let stream = text(self.stream.iter().map(|&byte| u32::from(byte)));
         let answers: Vec<String> = self.answers.iter().map(|number| format!("{number} ∷ ")).collect();
         let chart = text(self.chart.iter().copied());
-        format!("record {{ stream = {stream}; answers = {}[]; event = {}; chart = {chart} }}", answers.concat(), self.event)
+        format!(
+            "record {{ stream = {stream}; answers = {}[]; event = {}; chart = {chart} }}",
+            answers.concat(),
+            self.event
+        )
     }
 
     pub fn shown(&self) -> String {

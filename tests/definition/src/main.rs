@@ -38,7 +38,11 @@ fn compare(arguments: &[String]) -> Result<(), String> {
     print!("{}", if has("--table") { table.print() } else { format!("accepted: {}\n", table.accepted) });
     println!("streams: {count}, different: {}, seconds: {:.0}", wrong.len(), begin.elapsed().as_secs_f64());
     wrong.iter().for_each(|&place| eprintln!("{}", cases[place].shown()));
-    if wrong.is_empty() { Ok(()) } else { Err(format!("{} streams differ", wrong.len())) }
+    if wrong.is_empty() {
+        Ok(())
+    } else {
+        Err(format!("{} streams differ", wrong.len()))
+    }
 }
 
 fn main() -> ExitCode {
