@@ -155,3 +155,20 @@ fn repeated_keys() {
     check(b"event=open\nname=x\nkey=a\\n\nvalue=\nkey=a\\n\nvalue=\n", "an escaped key twice");
     check(b"event=open\nname=x\nkey=a\\n\nvalue=\nkey=a\\\\n\nvalue=\n", "two escaped keys");
 }
+
+/// The longest event that is in form, each byte of its texts escaped, and longer ones, past 16 bits too.
+#[test]
+fn long_events() {
+    let backslashes = |n: usize| "\\\\".repeat(n);
+    let pair = |i: usize| format!("key={}{i:02}\nvalue={}\n", backslashes(62), backslashes(1_024));
+    let pairs: String = (0..16).map(pair).collect();
+    let longest = format!("event=whole\nname=content\n{pairs}text={}\n", backslashes(4_096));
+    assert!(described(longest.as_bytes()).0.number == 0 && longest.len() > 43_000);
+    check(longest.as_bytes(), "the longest event");
+    for n in [43_352, 49_000, 49_151, 49_152, 49_153, 65_535, 65_536, 140_000] {
+        for start in ["event=", "event=open\nname=", "event=open\nname=x\nkey=", "event=open\nname=x\nkey=k\nvalue="] {
+            check(format!("{start}{}\n", "a".repeat(n)).as_bytes(), &format!("{start} and {n} bytes"));
+        }
+        check(format!("event=open\nname=x\n{}", "\n".repeat(n)).as_bytes(), &format!("{n} empty lines"));
+    }
+}
