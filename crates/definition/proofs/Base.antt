@@ -4,7 +4,7 @@ use mathlib.Core.Path.{_≡_, refl, sym, ap, ap₂, _∙_, subst}
 use mathlib.Core.Bool.{Bool, true, false, _&&_, cond}
 use mathlib.Core.Option.{Option, none, some}
 use mathlib.Core.List.{List, [], _∷_, _++_}
-use lib.ListN.{getD, set}
+use lib.ListN.{length, getD, set}
 use lib.Dec.{T, eqb}
 use borrow.Author.Tests.{eqb-true, eq-eqb}
 use native.Mathlib.Omega.{arith}
@@ -69,6 +69,17 @@ same-eq (x ∷ xs) (y ∷ ys) e = go (eqb x y) refl (same-eq xs ys)
     go : (c : Bool) → eqb x y ≡ c → (same xs ys ≡ true → xs ≡ ys) → x ∷ xs ≡ y ∷ ys
     go true q ih = ap₂ _∷_ (eqb-true x y q) (ih (rw (q, same) at e))
     go false q ih = let z : false ≡ true = rw (q, same) at e in cc
+
+pub same-length : (a b : List ℕ) → (length a ≡ length b → ⊥) → same a b ≡ false
+unfolding same
+same-length [] [] h = absurd (h refl)
+same-length [] (y ∷ ys) h = refl
+same-length (x ∷ xs) [] h = refl
+same-length (x ∷ xs) (y ∷ ys) h = go (eqb x y) refl (same-length xs ys (λ e. h (ap suc e)))
+  where
+    go : (c : Bool) → eqb x y ≡ c → same xs ys ≡ false → same (x ∷ xs) (y ∷ ys) ≡ false
+    go true q ih = rw (q, same) ih
+    go false q ih = rw (q, same)
 
 -- ---- roles
 

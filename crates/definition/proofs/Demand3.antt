@@ -75,9 +75,6 @@ to-zero P ts h k = subst (λ (x : ℕ). All (P x) (getD ts k [])) (omega arith) 
 
 -- ---- lent slices
 
-used-size : (n : ℕ) (x y : List ℕ) → length y ≡ length x → length (take n y) ≡ length (take n x)
-used-size n x y e = rw (length-take n y, length-take n x, e)
-
 module _ (ρ : List ℕ → List ℕ) (N : Renaming ρ) where
   abbrev σ : List ℕ → List ℕ
   σ = on7 ρ

@@ -66,10 +66,6 @@ role-at : (k c : ℕ) (q : Role) → textRole (getD (columnsOf k) c free) ≡ so
 unfolding roleAt
 role-at k c q e = e
 
-role-of : (k c : ℕ) (q : Role) → roleAt k c ≡ some q → textRole (getD (columnsOf k) c free) ≡ some q
-unfolding roleAt
-role-of k c q e = e
-
 -- ---- a row of zeros
 
 pub zero-num : (n c : ℕ) → num (replicate n 0) c ≡ 0

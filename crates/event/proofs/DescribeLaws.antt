@@ -8,7 +8,8 @@ use Rattle.definition.specs.Elements.{holdsText}
 use Rattle.parts.specs.declared.Walked.{Walked}
 use Rattle.walk.specs.Walk.{walked}
 use Rattle.event.specs.declared.Described.{Described}
-use Rattle.event.specs.Described.{blank, told, shapeFits, inShape, pairKeys, allDiffer, finished, described}
+use Rattle.event.specs.Described.{blank, descriptionOf, shapeFits, inShape, pairKeys, allDiffer, finished, described}
+use Rattle.event.proofs.EventLaw.{finish-out, finish-in}
 
 module _ (raw : List ℕ) (w : Walked) (ew : w ≡ walked raw) where
   whole : {d : Described} → d ≡ finished raw w → d ≡ described raw
@@ -21,17 +22,14 @@ module _ (raw : List ℕ) (w : Walked) (ew : w ≡ walked raw) where
     shape-is = sym (es ∙ ap (shapeFits (w .kind) (w .next) (w .count)) eh)
 
     pub end-shape : s ≡ false → blank 3 ≡ described raw
-    unfolding finished
-    end-shape f = whole (rw (shape-is ∙ f, finished))
+    end-shape f = whole (sym (finish-out raw w (shape-is ∙ f)))
 
     module _ (f : s ≡ true) {k : Bool} (ek : k ≡ allDiffer (pairKeys raw (take (w .count) (w .pairs)))) where
       pub end-keys : k ≡ false → blank 4 ≡ described raw
-      unfolding finished
-      end-keys g = whole (rw (shape-is ∙ f, finished, sym ek ∙ g, finished))
+      end-keys g = whole (sym (finish-in raw w (shape-is ∙ f) false (sym ek ∙ g)))
 
-      pub end-good : k ≡ true → told w ≡ described raw
-      unfolding finished
-      end-good g = whole (rw (shape-is ∙ f, finished, sym ek ∙ g, finished))
+      pub end-good : k ≡ true → descriptionOf w ≡ described raw
+      end-good g = whole (sym (finish-in raw w (shape-is ∙ f) true (sym ek ∙ g)))
 
 -- ---- the kind
 

@@ -16,14 +16,15 @@ use Rattle.definition.specs.Look.{valuesLength}
 use Rattle.definition.proofs.Base.{true-is-false, some-inj, and-left, and-right}
 use Rattle.definition.proofs.EventLength.{event-length}
 use Rattle.lines.specs.Parts.{orNothing}
-use Rattle.parts.specs.declared.Part.{Part}
 use Rattle.parts.specs.declared.Pair.{Pair}
 use Rattle.parts.specs.declared.Walked.{Walked}
 use Rattle.walk.specs.Walk.{walked}
-use Rattle.walk.proofs.WalkLaw.{Reads, PairReads, Pairs, no-pairs, pair, TextReads, walk-no-text, walk-text, Stopped}
+use Rattle.walk.specs.Reads.{Pairs, no-pairs, pair}
+use Rattle.walk.proofs.WalkLaw.{TextReads, walk-no-text, walk-text, Stopped}
 use Rattle.walk.proofs.TakenLaw.{Carries, Within, Taken, whole, too-long, none-of, taken-law}
 use Rattle.event.specs.declared.Described.{Described}
-use Rattle.event.specs.Described.{blank, told, shapeFits, inShape, read, pairKeys, isAmong, allDiffer, finished, described, valuesSize}
+use Rattle.event.specs.Described.{blank, descriptionOf, shapeFits, inShape, read, pairKeys, isAmong, allDiffer, finished, described, valuesSize}
+use Rattle.event.specs.Agrees.{TextDescribed, no-text, a-text, Describes, Agrees, out-of-form, keys-repeat, in-form, answer}
 
 -- ---- keys
 
@@ -129,45 +130,24 @@ form-of e w =
 
 -- ---- the whole
 
--- A text where the event has one.
-pub data TextTold (raw : List ℕ) (p : Part) : Option (List ℕ) → Type 0 where
-  no-text : TextTold raw p none
-  a-text : (v : List ℕ) → Reads raw p v → TextTold raw p (some v)
+text-described : {raw : List ℕ} {w : Walked} {t : Option (List ℕ)} → TextReads raw w t → TextDescribed raw (w .text) t
+text-described (walk-no-text e) = no-text
+text-described (walk-text v e r) = a-text v r
 
--- d describes the event e, written in raw: every number, every attribute in order, and where each text stands.
-pub record Describes (raw : List ℕ) (d : Described) (e : Event) : Type 0 where
-  pub number : d .number ≡ 0
-  pub kind : d .kind ≡ e .kind
-  pub tag : d .tag ≡ tagOf (e .name)
-  pub name : Reads raw (d .name) (e .name)
-  pub count : d .count ≡ length (e .attributes)
-  pub pairs : Pairs raw (take (d .count) (d .pairs)) (e .attributes)
-  pub text : TextTold raw (d .text) (e .text)
-
--- The numbers 3 and 4 with zeros, or 0 with the event's parts.
-pub data Agrees (raw : List ℕ) (d : Described) : Type 0 where
-  out-of-form : d ≡ blank 3 → ((e : Event) → readEvent raw ≡ some e → inForm limits01 e ≡ true → ⊥) → Agrees raw d
-  keys-repeat : (e : Event) → d ≡ blank 4 → readEvent raw ≡ some e → inForm limits01 e ≡ true → keysDiffer (e .attributes) ≡ false → Agrees raw d
-  in-form : (e : Event) → readEvent raw ≡ some e → inForm limits01 e ≡ true → keysDiffer (e .attributes) ≡ true → Describes raw d e → Agrees raw d
-
-text-told : {raw : List ℕ} {w : Walked} {t : Option (List ℕ)} → TextReads raw w t → TextTold raw (w .text) t
-text-told (walk-no-text e) = no-text
-text-told (walk-text v e r) = a-text v r
-
-told-describes : (raw : List ℕ) (w : Walked) (e : Event) → Carries raw w e → Describes raw (told w) e
-unfolding told
-told-describes raw w e c = record { number = refl; kind = c .kind; tag = c .tag; name = c .name; count = c .count; pairs = c .pairs; text = text-told (c .text) }
+walked-describes : (raw : List ℕ) (w : Walked) (e : Event) → Carries raw w e → Describes raw (descriptionOf w) e
+unfolding descriptionOf
+walked-describes raw w e c = record { number = refl; kind = c .kind; tag = c .tag; name = c .name; count = c .count; pairs = c .pairs; text = text-described (c .text) }
 
 module _ (raw : List ℕ) where
-  finish-out : (w : Walked) → inShape w ≡ false → finished raw w ≡ blank 3
+  pub finish-out : (w : Walked) → inShape w ≡ false → finished raw w ≡ blank 3
   unfolding finished
   finish-out w e = rw (e, finished)
 
-  finish-in : (w : Walked) → inShape w ≡ true → (p : Bool) → allDiffer (pairKeys raw (take (w .count) (w .pairs))) ≡ p
-      → finished raw w ≡ elim p as (λ b. Described) [ true ↦ told w | false ↦ blank 4 ]
+  pub finish-in : (w : Walked) → inShape w ≡ true → (p : Bool) → allDiffer (pairKeys raw (take (w .count) (w .pairs))) ≡ p
+      → finished raw w ≡ elim p as (λ b. Described) [ true ↦ descriptionOf w | false ↦ blank 4 ]
   unfolding finished
-  finish-in w e true q = rw (e, finished, q, finished)
-  finish-in w e false q = rw (e, finished, q, finished)
+  finish-in w e true q = rw (e, finished, q, finished) refl
+  finish-in w e false q = rw (e, finished, q, finished) refl
 
   finish-law : (w : Walked) → Taken raw w (readEvent raw) → Agrees raw (finished raw w)
   finish-law w (too-long s h) = out-of-form (finish-out w (shape-no w s)) (λ e g f. omega (arith, h, event-length raw e g f))
@@ -182,17 +162,12 @@ module _ (raw : List ℕ) where
 
       go : (p r : Bool) → kindFits (e .kind) e ≡ p → keysDiffer (e .attributes) ≡ r → Agrees raw (finished raw w)
       go false r q u = out-of-form (finish-out w (shape ∙ q)) (λ x y z. true-is-false (sym z ∙ ap (inForm limits01) (some-inj e x e (sym y ∙ g)) ∙ form-of e h ∙ q))
-      go true true q u = in-form e g (form-of e h ∙ q) u (subst (λ (d : Described). Describes raw d e) (sym (finish-in w (shape ∙ q) true (differ ∙ u))) (told-describes raw w e c))
+      go true true q u = in-form e g (form-of e h ∙ q) u (subst (λ (d : Described). Describes raw d e) (sym (finish-in w (shape ∙ q) true (differ ∙ u))) (walked-describes raw w e c))
       go true false q u = keys-repeat e (finish-in w (shape ∙ q) false (differ ∙ u)) g (form-of e h ∙ q) u
 
   pub agrees : Agrees raw (described raw)
   unfolding described
   agrees = finish-law (walked raw) (taken-law raw)
-
--- The number alone, as one equation: 3 out of form, 4 where keys repeat, else 0.
-unfoldable pub answer : Option Event → ℕ
-answer none = 3
-answer (some e) = elim (inForm limits01 e) [ true ↦ elim (keysDiffer (e .attributes)) [ true ↦ 0 | false ↦ 4 ] | false ↦ 3 ]
 
 refused : (o : Option Event) → ((e : Event) → o ≡ some e → inForm limits01 e ≡ true → ⊥) → 3 ≡ answer o
 unfolding answer

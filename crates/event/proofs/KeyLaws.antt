@@ -1,7 +1,7 @@
 -- The pairs one after another: their keys, and the lengths of their values.
 use Prim.Native.Nat.{ℕ, _+_, _*_, _≤_, _<_}
-use mathlib.Core.Path.{_≡_, refl, ap, ap₂, _∙_}
-use mathlib.Core.Bool.{Bool, true, false}
+use mathlib.Core.Path.{_≡_, sym, ap, ap₂, _∙_}
+use mathlib.Core.Bool.{true, false}
 use mathlib.Core.List.{List, [], _∷_}
 use native.Mathlib.Numerals.{add-one}
 use native.Mathlib.Omega.{arith}
@@ -23,20 +23,25 @@ key-read raw p at len x e f g = ap (λ (y : List ℕ). orNothing (legible y)) (e
 abbrev pub keysFrom : List ℕ → List Pair → ℕ → ℕ → List (List ℕ)
 keysFrom raw ps c j = pairKeys raw (drop j (take c ps))
 
-module _ (raw : List ℕ) (ps : List Pair) (c j : ℕ) where
-  keys-next : j < c → j < length ps → keysFrom raw ps c j ≡ read raw (getD ps j noPair .key) ∷ keysFrom raw ps c (j + 1)
-  unfolding pairKeys
-  keys-next h k =
+-- No pair is left from j on: the first c are passed, or all of them.
+module _ (ps : List Pair) (c j : ℕ) where
+  pub past-count : c ≤ j → drop j (take c ps) ≡ []
+  past-count h = let m : length (take c ps) ≤ j = omega (arith, length-take c ps) in drop-of-length-le (take c ps) m
+
+  pub past-pairs : length ps ≤ j → drop j (take c ps) ≡ []
+  past-pairs h = let m : length (take c ps) ≤ j = omega (arith, length-take c ps) in drop-of-length-le (take c ps) m
+
+  pair-next : j < c → j < length ps → drop j (take c ps) ≡ getD ps j noPair ∷ drop (j + 1) (take c ps)
+  pair-next h k =
       let m : j < length (take c ps) = omega (arith, length-take c ps) in
       rw (drop-cons (take c ps) j noPair m, getD-take c ps j noPair h, add-one)
 
-  keys-none : length ps ≤ j → keysFrom raw ps c j ≡ []
-  unfolding pairKeys
-  keys-none h = let m : length (take c ps) ≤ j = omega (arith, length-take c ps) in rw (drop-of-length-le (take c ps) m)
+-- ---- keys
 
-  keys-past : c ≤ j → keysFrom raw ps c j ≡ []
+module _ (raw : List ℕ) (ps : List Pair) (c j : ℕ) where
+  keys-next : j < c → j < length ps → keysFrom raw ps c j ≡ read raw (getD ps j noPair .key) ∷ keysFrom raw ps c (j + 1)
   unfolding pairKeys
-  keys-past h = let m : length (take c ps) ≤ j = omega (arith, length-take c ps) in rw (drop-of-length-le (take c ps) m)
+  keys-next h k = ap (pairKeys raw) (pair-next ps c j h k)
 
   module _ (k : List ℕ) where
     pub among-more : j < c → j < length ps → same (read raw (getD ps j noPair .key)) k ≡ false → isAmong k (keysFrom raw ps c (j + 1)) ≡ isAmong k (keysFrom raw ps c j)
@@ -47,13 +52,9 @@ module _ (raw : List ℕ) (ps : List Pair) (c j : ℕ) where
     unfolding isAmong
     among-stop h l e = rw (keys-next h l, e, isAmong)
 
-    pub among-none : length ps ≤ j → false ≡ isAmong k (keysFrom raw ps c j)
-    unfolding isAmong
-    among-none h = rw (keys-none h)
-
-    pub among-past : c ≤ j → false ≡ isAmong k (keysFrom raw ps c j)
-    unfolding isAmong
-    among-past h = rw (keys-past h)
+    pub among-none : drop j (take c ps) ≡ [] → false ≡ isAmong k (keysFrom raw ps c j)
+    unfolding isAmong pairKeys
+    among-none e = sym (ap (λ (x : List Pair). isAmong k (pairKeys raw x)) e)
 
   pub differ-more : j < c → j < length ps → isAmong (read raw (getD ps j noPair .key)) (keysFrom raw ps c (j + 1)) ≡ false → allDiffer (keysFrom raw ps c (j + 1)) ≡ allDiffer (keysFrom raw ps c j)
   unfolding allDiffer
@@ -63,13 +64,9 @@ module _ (raw : List ℕ) (ps : List Pair) (c j : ℕ) where
   unfolding allDiffer
   differ-stop h l e = rw (keys-next h l, e, allDiffer)
 
-  pub differ-none : length ps ≤ j → true ≡ allDiffer (keysFrom raw ps c j)
-  unfolding allDiffer
-  differ-none h = rw (keys-none h)
-
-  pub differ-past : c ≤ j → true ≡ allDiffer (keysFrom raw ps c j)
-  unfolding allDiffer
-  differ-past h = rw (keys-past h)
+  pub differ-none : drop j (take c ps) ≡ [] → true ≡ allDiffer (keysFrom raw ps c j)
+  unfolding allDiffer pairKeys
+  differ-none e = sym (ap (λ (x : List Pair). allDiffer (pairKeys raw x)) e)
 
 -- ---- the lengths of values
 
@@ -87,16 +84,10 @@ module _ (ps : List Pair) (c : ℕ) where
     pub sum-more : i < c → i < length ps → i < 16 → (n : ℕ) → n ≡ getD ps i noPair .value .size → n < 65536 → Summing ps c (sum + n) (i + 1)
     unfolding valuesSize
     sum-more h k f n e b =
-        let m : i < length (take c ps) = omega (arith, length-take c ps) in
-        let z : valuesSize (drop i (take c ps)) ≡ n + valuesSize (drop (i + 1) (take c ps)) = rw (drop-cons (take c ps) i noPair m, getD-take c ps i noPair h, add-one, e) refl in
+        let z : valuesSize (drop i (take c ps)) ≡ n + valuesSize (drop (i + 1) (take c ps)) =
+        ap valuesSize (pair-next ps c i h k) ∙ ap (λ (x : ℕ). x + valuesSize (drop (i + 1) (take c ps))) (sym e) in
         record { rest = omega (arith, z, s .rest); bound = omega (arith, s .bound); few = omega arith }
 
-    sum-all : drop i (take c ps) ≡ [] → sum ≡ valuesSize (take c ps)
+    pub sum-none : drop i (take c ps) ≡ [] → sum ≡ valuesSize (take c ps)
     unfolding valuesSize
-    sum-all e = let z : valuesSize (drop i (take c ps)) ≡ 0 = ap valuesSize e in omega (arith, z, s .rest)
-
-    pub sum-past : c ≤ i → sum ≡ valuesSize (take c ps)
-    sum-past h = let m : length (take c ps) ≤ i = omega (arith, length-take c ps) in sum-all (drop-of-length-le (take c ps) m)
-
-    pub sum-none : length ps ≤ i → sum ≡ valuesSize (take c ps)
-    sum-none h = let m : length (take c ps) ≤ i = omega (arith, length-take c ps) in sum-all (drop-of-length-le (take c ps) m)
+    sum-none e = let z : valuesSize (drop i (take c ps)) ≡ 0 = ap valuesSize e in omega (arith, z, s .rest)

@@ -28,8 +28,9 @@ blank n =
       text = partAt 0 0 0;
     }
 
-unfoldable pub told : Walked → Described
-told w =
+-- Taken apart: what the lines have brought.
+unfoldable pub descriptionOf : Walked → Described
+descriptionOf w =
     record {
       number = 0;
       kind = w .kind;
@@ -40,9 +41,10 @@ told w =
       text = w .text;
     }
 
--- ---- question 3
+-- ---- question 3: "Is the event in form and within its own limits, bytes up to 127?"
 
--- The kind fits what came: `whole` a text and an element that holds one, `open` none that does, `end` no pairs. `next` is 4 after a text and 2 without one.
+-- "`text=` exactly for `whole`"; "`end` has no pairs"; "`data`, `script`, `content`, `assign` come as `whole` or `empty`, never `open`, and nothing else is
+-- `whole`." `next` is 4 after a text and 2 without one.
 unfoldable pub shapeFits : ℕ → ℕ → ℕ → Bool → Bool
 shapeFits zero next count holds = eqb next 2 && not holds
 shapeFits (suc zero) next count holds = eqb next 2
@@ -54,7 +56,7 @@ unfoldable pub inShape : Walked → Bool
 unfolding shapeFits holdsText
 inShape w = shapeFits (w .kind) (w .next) (w .count) (holdsText (w .tag))
 
--- ---- question 4
+-- ---- question 4: "Are its keys different?"
 
 unfoldable pub read : List ℕ → Part → List ℕ
 unfolding part orNothing legible
@@ -78,10 +80,10 @@ allDiffer (k ∷ ks) = elim (isAmong k ks) [ true ↦ false | false ↦ allDiffe
 -- ---- the description
 
 unfoldable pub finished : List ℕ → Walked → Described
-unfolding told blank inShape allDiffer pairKeys
+unfolding descriptionOf blank inShape allDiffer pairKeys
 finished raw w =
     elim (inShape w) [
-      | true ↦ elim (allDiffer (pairKeys raw (take (w .count) (w .pairs)))) [ true ↦ told w | false ↦ blank 4 ]
+      | true ↦ elim (allDiffer (pairKeys raw (take (w .count) (w .pairs)))) [ true ↦ descriptionOf w | false ↦ blank 4 ]
       | false ↦ blank 3
     ]
 
@@ -89,7 +91,7 @@ unfoldable pub described : List ℕ → Described
 unfolding finished walked
 described raw = finished raw (walked raw)
 
--- The lengths of all values together, unescaped.
+-- "Text charge, ..: the lengths of all values": unescaped, those of unknown keys too.
 unfoldable pub valuesSize : List Pair → ℕ
 valuesSize [] = 0
 valuesSize (p ∷ ps) = p .value .size + valuesSize ps

@@ -11,7 +11,7 @@ ghost use mathlib.Core.Path.{_≡_};
 ghost use Prim.Native.Nat.{_+_, _<_};
 ghost use lib.ListN.{getD, take, drop};
 ghost use Rattle.parts.specs.Parts.{noPair};
-ghost use Rattle.event.specs.Described.{blank, told, shapeFits, read, pairKeys, isAmong, allDiffer, described, valuesSize};
+ghost use Rattle.event.specs.Described.{blank, descriptionOf, shapeFits, read, pairKeys, isAmong, allDiffer, described, valuesSize};
 
 // An event's bytes taken apart: its kind from 0 and its element's number, and the first `count` of `pairs` are its attributes, in order. Of kind 2,
 // `whole`, `text` is the text. A refused event has the number of the question that is answered no, and zeros.
@@ -50,8 +50,8 @@ fn blank_with(number: u32) -> Described
     }
 }
 
-fn tell(w: Walked) -> Described
-    ensures { λ r. ⌜ r ≡ told w ⌝ }
+fn description_of(w: Walked) -> Described
+    ensures { λ r. ⌜ r ≡ descriptionOf w ⌝ }
 {
     let kind = w.kind;
     let tag = w.tag;
@@ -149,7 +149,7 @@ pub fn describe(raw: &[u8]) -> Described
     if !keys_differ(raw, w) {
         return blank_with(4);
     }
-    tell(w)
+    description_of(w)
 }
 
 // The lengths of all values together, unescaped, those of unknown keys too: what the text charge counts of them.

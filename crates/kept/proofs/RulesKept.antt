@@ -103,10 +103,6 @@ module _ (L : Limits) (s : Store) (e : Event) (short : leb (L .name) 64 ≡ true
   abbrev m : Numbers
   m = entered l n
 
-  text-now : t ≡ s .text ++ Rattle.definition.specs.Look.payload (Rattle.definition.specs.Look.itemsOf (tagOf (e .name)) (n .names) e)
-  unfolding textAfter
-  text-now = refl
-
   start-of : (k : ℕ) → e .kind ≡ k → isStart l ≡ not (eqb k 3)
   unfolding isStart look
   start-of k z = ap (λ (x : ℕ). not (eqb x 3)) z

@@ -2,12 +2,12 @@
 use mathlib.Core.Path.{_≡_, refl, sym, ap, _∙_, subst}
 use mathlib.Core.Bool.{Bool, true, false}
 use mathlib.Core.Option.{Option, none, some}
-use mathlib.Core.List.{List, [], _∷_, _++_, append-assoc}
+use mathlib.Core.List.{List, [], _∷_, append-assoc}
 use Prim.Native.Nat.{ℕ, zero, suc, _+_, _-_, _≤_, _<_}
 use native.Mathlib.Numerals.{add-one}
 use native.Mathlib.Omega.{arith}
-use lib.Dec.{T, eqb, leb, ltb}
-use lib.ListN.{length, getD, set, take, drop, drop-of-length-le, length-drop, length-append, take-append-drop, length-set}
+use lib.Dec.{T, eqb}
+use lib.ListN.{length, getD, set, drop, drop-of-length-le, length-drop, take-append-drop, length-set}
 use lib.Seq.{drop-cons, drop-drop, take-suc-set, drop-set-lt}
 use borrow.Author.Tests.{ne-eqb, eq-eqb, lt-ltb, le-ltb, eqb-true, le-leb, lt-leb}
 use Rattle.definition.specs.Text.{isAllowed, allAllowed}

@@ -4,11 +4,10 @@ use mathlib.Core.Path.{_≡_, refl, sym, ap, ap₂, _∙_, subst}
 use mathlib.Core.Bool.{Bool, true, false}
 use mathlib.Core.Option.{Option, none, some}
 use mathlib.Core.List.{List, [], _∷_}
-use native.Mathlib.Numerals.{add-one}
 use native.Mathlib.Omega.{arith}
-use lib.Dec.{eqb, ltb}
-use lib.ListN.{length, getD, take, drop, drop-of-length-le, length-drop}
-use lib.Seq.{drop-cons, drop-drop, take-all}
+use lib.Dec.{ltb}
+use lib.ListN.{length, take, drop, drop-of-length-le, length-drop}
+use lib.Seq.{drop-drop, take-all}
 use borrow.Author.Tests.{ne-eqb, eq-eqb, ltb-true, ltb-false}
 use Rattle.definition.specs.Text.{same, allAllowed}
 use Rattle.definition.specs.Event.{legible, prepend, unescapeFrom, ifAllowed}
@@ -16,19 +15,6 @@ use Rattle.lines.specs.declared.Scan.{Scan}
 use Rattle.lines.specs.Escapes.{counted, scanned, firstWidth, firstByte}
 use Rattle.lines.specs.Parts.{part, orNothing}
 use Rattle.lines.proofs.EscapeLaws.{First, broken, shown, here-of, width-fits}
-
--- ---- the same bytes
-
-pub same-length : (a b : List ℕ) → (length a ≡ length b → ⊥) → same a b ≡ false
-unfolding same
-same-length [] [] h = absurd (h refl)
-same-length [] (y ∷ ys) h = refl
-same-length (x ∷ xs) [] h = refl
-same-length (x ∷ xs) (y ∷ ys) h = go (eqb x y) refl (same-length xs ys (λ e. h (ap suc e)))
-  where
-    go : (p : Bool) → eqb x y ≡ p → same xs ys ≡ false → same (x ∷ xs) (y ∷ ys) ≡ false
-    go true q ih = rw (q, same) ih
-    go false q ih = rw (q, same)
 
 -- ---- parts
 

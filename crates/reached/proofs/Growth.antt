@@ -72,19 +72,6 @@ solid-grows ts us G s =
       states = G .wide1 (s .states);
     }
 
-pub grows-trans : (ts us vs : List Table) → Grows ts us → Grows us vs → Grows ts vs
-grows-trans ts us vs G H =
-    record {
-      size = H .size ∙ G .size;
-      states = omega (arith, G .states, H .states);
-      invokes = λ s h. H .invokes s (G .invokes s h);
-      done = λ s h. H .done s (G .done s h);
-      root = λ h. H .root (G .root h);
-      chart = λ h. H .chart (G .chart h);
-      wide0 = λ h. H .wide0 (G .wide0 h);
-      wide1 = λ h. H .wide1 (G .wide1 h);
-    }
-
 -- ---- each is stable
 
 long-stable : (k m : ℕ) → Stable k (λ rs. m ≤ length rs)

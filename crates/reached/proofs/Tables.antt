@@ -34,14 +34,6 @@ not-both false e f = false≢true e
 
 -- ---- a number among others
 
-pub among-view : (n m : ℕ) (ms : List ℕ) → among n (m ∷ ms) ≡ (eqb n m || among n ms)
-unfolding among
-among-view n m ms = go (eqb n m)
-  where
-    go : (b : Bool) → elim b [ true ↦ true | false ↦ among n ms ] ≡ (b || among n ms)
-    go true = refl
-    go false = refl
-
 unfoldable pub within : List ℕ → List ℕ → Bool
 within [] ys = true
 within (x ∷ xs) ys = among x ys && within xs ys

@@ -1,13 +1,10 @@
 -- A description's attributes by place.
 use Prim.Native.Nat.{ℕ, _≤_}
-use mathlib.Core.Path.{_≡_, refl, sym, ap, _∙_}
+use mathlib.Core.Path.{_≡_, sym, ap, _∙_}
 use lib.ListN.{length, getD, take, List·getD-eq-default}
-use native.Mathlib.Omega.{arith}
-use Rattle.parts.specs.declared.Pair.{Pair}
 use Rattle.parts.specs.Parts.{noPair}
 use Rattle.event.specs.declared.Described.{Described}
 use Rattle.event.specs.Described.{valuesSize}
-use Rattle.shown.specs.declared.Attribute.{Attribute}
 use Rattle.shown.specs.Shown.{withSum, headOf, attributeOf, attributeAt}
 
 module _ (d e : Described) (q : d ≡ e) (i : ℕ) where

@@ -1,8 +1,8 @@
 -- What the loops of this crate, and its callers, need of the definitions: each definition at a part of a list that starts at i.
 use mathlib.Core.Path.{_≡_, refl, ap, sym, _∙_}
-use mathlib.Core.List.{List, [], _∷_, map}
-use mathlib.Core.Bool.{Bool, true, false, _&&_}
-use Prim.Native.Nat.{ℕ, zero, suc, _+_, _-_, _≤_, _<_}
+use mathlib.Core.List.{List, [], _∷_}
+use mathlib.Core.Bool.{Bool, true, false}
+use Prim.Native.Nat.{ℕ, suc, _+_, _-_, _≤_, _<_}
 use native.Mathlib.Numerals.{add-one}
 use native.Mathlib.Omega.{arith}
 use lib.Dec.{eqb, eqb·suc-zero}
@@ -25,18 +25,6 @@ module _ (a b : List ℕ) (i : ℕ) where
   pub same-end : length a ≤ i → length b ≤ i → same (drop i a) (drop i b) ≡ true
   unfolding same
   same-end h k = rw (drop-of-length-le a h, drop-of-length-le b k)
-
-both-false : (t : Bool) {b : Bool} → b ≡ false → elim t [ true ↦ b | false ↦ false ] ≡ false
-both-false true e = e
-both-false false e = refl
-
--- texts of different lengths differ
-pub same-length : (a b : List ℕ) → (length a ≡ length b → ⊥) → same a b ≡ false
-unfolding same
-same-length [] [] h = absurd (h refl)
-same-length [] (y ∷ ys) h = refl
-same-length (x ∷ xs) [] h = refl
-same-length (x ∷ xs) (y ∷ ys) h = both-false (eqb x y) (same-length xs ys (λ e. h (ap suc e)))
 
 eqb-sym : (x y : ℕ) → eqb x y ≡ eqb y x
 eqb-sym x y = go (eqb x y) refl

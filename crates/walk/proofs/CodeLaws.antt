@@ -136,66 +136,78 @@ module _ (low high at : ℕ) (x : List ℕ) where
     pub size-small : (s .ok && leb low (s .len) && leb (s .len) top) ≡ true → s .len ≤ high
     size-small f = omega (arith, et, leb-true (s .len) top (and-right (s .ok && leb low (s .len)) (leb (s .len) top) f))
 
+-- What a line with a part makes, r, by whether the part is within its limits: `put` is what the part adds to d.
+module _ (low high at : ℕ) (x : List ℕ) (m : Found) (em : m ≡ found low high at x) (d r : Walked) (put : Part → Walked)
+    (by : (p : Bool) → fits low high (scanned x) ≡ p → r ≡ elim p as (λ q. Walked) [ true ↦ put (written at x) | false ↦ P.broken d ]) where
+  fits-by : (p : Bool) → m .ok ≡ p → fits low high (scanned x) ≡ p
+  fits-by p q = fits-found low high at x p (sym (ap (λ (y : Found). y .ok) em) ∙ q)
+
+  part-good : m .ok ≡ true → put (m .part) ≡ r
+  part-good t = ap put (ap (λ (y : Found). y .part) em ∙ found-part low high at x (fits-by true t)) ∙ sym (by true (fits-by true t))
+
+  part-bad : m .ok ≡ false → P.broken d ≡ r
+  part-bad t = sym (by false (fits-by false t))
+
 module _ (l : List ℕ) (at : ℕ) (d : Walked) (x : List ℕ) (m : Found) where
   module _ (e : hasHead (str "name=") l ≡ true) (ex : x ≡ drop 5 l) (em : m ≡ found 1 64 (at + 5) x) where
-    name-by : (p : Bool) → m .ok ≡ p → onName at (lineOf l) d ≡ elim p as (λ q. Walked) [ true ↦ withName (tagOf x) (m .part) d | false ↦ P.broken d ]
-    unfolding onName nameFits found
-    name-by p q = ap (λ (y : Line). onName at y d) (as-name l e ∙ ap E.name (sym ex)) ∙ go p (fits-found 1 64 (at + 5) x p (sym (ap (λ (y : Found). y .ok) em) ∙ q))
+    name-by : (p : Bool) → fits 1 64 (scanned x) ≡ p → onName at (lineOf l) d ≡ elim p as (λ q. Walked) [ true ↦ withName (tagOf x) (written (at + 5) x) d | false ↦ P.broken d ]
+    unfolding onName nameFits
+    name-by p z = ap (λ (y : Line). onName at y d) (as-name l e ∙ ap E.name (sym ex)) ∙ go p z
       where
-        go : (p : Bool) → nameFits x ≡ p → onName at (E.name x) d ≡ elim p as (λ q. Walked) [ true ↦ withName (tagOf x) (m .part) d | false ↦ P.broken d ]
-        go true z = rw (z, onName) (ap (λ (y : Part). withName (tagOf x) y d) (sym (ap (λ (y : Found). y .part) em ∙ found-part 1 64 (at + 5) x z)))
-        go false z = rw (z, onName)
+        go : (p : Bool) → nameFits x ≡ p → onName at (E.name x) d ≡ elim p as (λ q. Walked) [ true ↦ withName (tagOf x) (written (at + 5) x) d | false ↦ P.broken d ]
+        go true y = rw (y, onName) refl
+        go false y = rw (y, onName)
 
     pub name-good : (g : ℕ) → g ≡ tagOf x → m .ok ≡ true → withName g (m .part) d ≡ onName at (lineOf l) d
-    name-good g eg t = ap (λ (n : ℕ). withName n (m .part) d) eg ∙ sym (name-by true t)
+    name-good g f t = ap (λ (n : ℕ). withName n (m .part) d) f ∙ part-good 1 64 (at + 5) x m em d (onName at (lineOf l) d) (λ (y : Part). withName (tagOf x) y d) name-by t
 
     pub name-bad : m .ok ≡ false → P.broken d ≡ onName at (lineOf l) d
-    name-bad t = sym (name-by false t)
+    name-bad t = part-bad 1 64 (at + 5) x m em d (onName at (lineOf l) d) (λ (y : Part). withName (tagOf x) y d) name-by t
 
   module _ (e : hasHead (str "text=") l ≡ true) (ex : x ≡ drop 5 l) (em : m ≡ found 0 4096 (at + 5) x) where
-    text-by : (p : Bool) → m .ok ≡ p → onKey at (lineOf l) d ≡ elim p as (λ q. Walked) [ true ↦ withText (m .part) d | false ↦ P.broken d ]
-    unfolding onKey textFits found
-    text-by p q = ap (λ (y : Line). onKey at y d) (as-text l e ∙ ap E.text (sym ex)) ∙ go p (fits-found 0 4096 (at + 5) x p (sym (ap (λ (y : Found). y .ok) em) ∙ q))
+    text-by : (p : Bool) → fits 0 4096 (scanned x) ≡ p → onKey at (lineOf l) d ≡ elim p as (λ q. Walked) [ true ↦ withText (written (at + 5) x) d | false ↦ P.broken d ]
+    unfolding onKey textFits
+    text-by p z = ap (λ (y : Line). onKey at y d) (as-text l e ∙ ap E.text (sym ex)) ∙ go p z
       where
-        go : (p : Bool) → textFits x ≡ p → onKey at (E.text x) d ≡ elim p as (λ q. Walked) [ true ↦ withText (m .part) d | false ↦ P.broken d ]
-        go true z = rw (z, onKey) (ap (λ (y : Part). withText y d) (sym (ap (λ (y : Found). y .part) em ∙ found-part 0 4096 (at + 5) x z)))
-        go false z = rw (z, onKey)
+        go : (p : Bool) → textFits x ≡ p → onKey at (E.text x) d ≡ elim p as (λ q. Walked) [ true ↦ withText (written (at + 5) x) d | false ↦ P.broken d ]
+        go true y = rw (y, onKey) refl
+        go false y = rw (y, onKey)
 
     pub text-good : m .ok ≡ true → withText (m .part) d ≡ onKey at (lineOf l) d
-    text-good t = sym (text-by true t)
+    text-good t = part-good 0 4096 (at + 5) x m em d (onKey at (lineOf l) d) (λ (y : Part). withText y d) text-by t
 
     pub text-bad : m .ok ≡ false → P.broken d ≡ onKey at (lineOf l) d
-    text-bad t = sym (text-by false t)
+    text-bad t = part-bad 0 4096 (at + 5) x m em d (onKey at (lineOf l) d) (λ (y : Part). withText y d) text-by t
 
   module _ (e : hasHead (str "key=") l ≡ true) (ex : x ≡ drop 4 l) (em : m ≡ found 1 64 (at + 4) x) where
-    key-by : (p : Bool) → m .ok ≡ p → onKey at (lineOf l) d ≡ elim p as (λ q. Walked) [ true ↦ withKey (keyOf x) (m .part) d | false ↦ P.broken d ]
-    unfolding onKey keyFits found
-    key-by p q = ap (λ (y : Line). onKey at y d) (as-key l e ∙ ap E.key (sym ex)) ∙ go p (fits-found 1 64 (at + 4) x p (sym (ap (λ (y : Found). y .ok) em) ∙ q))
+    key-by : (p : Bool) → fits 1 64 (scanned x) ≡ p → onKey at (lineOf l) d ≡ elim p as (λ q. Walked) [ true ↦ withKey (keyOf x) (written (at + 4) x) d | false ↦ P.broken d ]
+    unfolding onKey keyFits
+    key-by p z = ap (λ (y : Line). onKey at y d) (as-key l e ∙ ap E.key (sym ex)) ∙ go p z
       where
-        go : (p : Bool) → keyFits x ≡ p → onKey at (E.key x) d ≡ elim p as (λ q. Walked) [ true ↦ withKey (keyOf x) (m .part) d | false ↦ P.broken d ]
-        go true z = rw (z, onKey) (ap (λ (y : Part). withKey (keyOf x) y d) (sym (ap (λ (y : Found). y .part) em ∙ found-part 1 64 (at + 4) x z)))
-        go false z = rw (z, onKey)
+        go : (p : Bool) → keyFits x ≡ p → onKey at (E.key x) d ≡ elim p as (λ q. Walked) [ true ↦ withKey (keyOf x) (written (at + 4) x) d | false ↦ P.broken d ]
+        go true y = rw (y, onKey) refl
+        go false y = rw (y, onKey)
 
     pub key-good : (c : ℕ) → c ≡ keyOf x → m .ok ≡ true → withKey c (m .part) d ≡ onKey at (lineOf l) d
-    key-good c ec t = ap (λ (n : ℕ). withKey n (m .part) d) ec ∙ sym (key-by true t)
+    key-good c f t = ap (λ (n : ℕ). withKey n (m .part) d) f ∙ part-good 1 64 (at + 4) x m em d (onKey at (lineOf l) d) (λ (y : Part). withKey (keyOf x) y d) key-by t
 
     pub key-bad : m .ok ≡ false → P.broken d ≡ onKey at (lineOf l) d
-    key-bad t = sym (key-by false t)
+    key-bad t = part-bad 1 64 (at + 4) x m em d (onKey at (lineOf l) d) (λ (y : Part). withKey (keyOf x) y d) key-by t
 
   module _ (e : hasHead (str "value=") l ≡ true) (ex : x ≡ drop 6 l) (em : m ≡ found 0 1024 (at + 6) x) where
-    value-by : (p : Bool) → m .ok ≡ p → onValue at (lineOf l) d ≡ elim p as (λ q. Walked) [ true ↦ addedValue (m .part) d | false ↦ P.broken d ]
-    unfolding onValue valueFits found
-    value-by p q = ap (λ (y : Line). onValue at y d) (as-value l e ∙ ap E.value (sym ex)) ∙ go p (fits-found 0 1024 (at + 6) x p (sym (ap (λ (y : Found). y .ok) em) ∙ q))
+    value-by : (p : Bool) → fits 0 1024 (scanned x) ≡ p → onValue at (lineOf l) d ≡ elim p as (λ q. Walked) [ true ↦ addedValue (written (at + 6) x) d | false ↦ P.broken d ]
+    unfolding onValue valueFits
+    value-by p z = ap (λ (y : Line). onValue at y d) (as-value l e ∙ ap E.value (sym ex)) ∙ go p z
       where
-        go : (p : Bool) → valueFits x ≡ p → onValue at (E.value x) d ≡ elim p as (λ q. Walked) [ true ↦ addedValue (m .part) d | false ↦ P.broken d ]
-        go true z = rw (z, onValue) (ap (λ (y : Part). addedValue y d) (sym (ap (λ (y : Found). y .part) em ∙ found-part 0 1024 (at + 6) x z)))
-        go false z = rw (z, onValue)
+        go : (p : Bool) → valueFits x ≡ p → onValue at (E.value x) d ≡ elim p as (λ q. Walked) [ true ↦ addedValue (written (at + 6) x) d | false ↦ P.broken d ]
+        go true y = rw (y, onValue) refl
+        go false y = rw (y, onValue)
 
     pub value-good : m .ok ≡ true → addedValue (m .part) d ≡ onValue at (lineOf l) d
-    value-good t = sym (value-by true t)
+    value-good t = part-good 0 1024 (at + 6) x m em d (onValue at (lineOf l) d) (λ (y : Part). addedValue y d) value-by t
 
     pub value-bad : m .ok ≡ false → P.broken d ≡ onValue at (lineOf l) d
-    value-bad t = sym (value-by false t)
+    value-bad t = part-bad 0 1024 (at + 6) x m em d (onValue at (lineOf l) d) (λ (y : Part). addedValue y d) value-by t
 
 pub event-good : (l : List ℕ) (d : Walked) (x : List ℕ) (k : ℕ) → hasHead (str "event=") l ≡ true → x ≡ drop 6 l → k ≡ placeIn kindNames x → withKind k d ≡ onEvent (lineOf l) d
 unfolding onEvent

@@ -12,7 +12,7 @@ use Rattle.definition.specs.Event.{lineOf, linesFrom, tailFrom, isNil}
 use Rattle.lines.specs.Lines.{lineLength}
 use Rattle.parts.specs.declared.Walked.{Walked}
 use Rattle.parts.specs.Parts.{begun, broken}
-use Rattle.walk.specs.Walk.{Placed, line, placedLines, step, walk, walkedLines, walked}
+use Rattle.walk.specs.Walk.{placedLines, step, walk, walkedLines, walked}
 
 -- ---- the first line of what is left
 

@@ -1,6 +1,6 @@
 -- Names of elements and keys have no byte that is escaped, so a number can be read off the bytes as they are written.
-use Prim.Native.Nat.{ℕ, zero, suc}
-use mathlib.Core.Path.{_≡_, refl, sym, ap, ap₂, _∙_, subst}
+use Prim.Native.Nat.{ℕ, suc}
+use mathlib.Core.Path.{_≡_, refl, sym, ap, _∙_, subst}
 use mathlib.Core.Bool.{Bool, true, false, _&&_, not}
 use mathlib.Core.Option.{Option, none, some}
 use mathlib.Core.List.{List, [], _∷_}
@@ -71,12 +71,6 @@ prepended : (b : ℕ) (o : Option (List ℕ)) (w : List ℕ) → prepend b o ≡
 unfolding prepend
 prepended b none w e = none-is-some w e
 prepended b (some v) w e = (v, refl, some-inj [] (b ∷ v) w e)
-
-first-is : (b c : ℕ) (v w : List ℕ) → b ∷ v ≡ c ∷ w → b ≡ c
-first-is b c v w e = cc
-
-rest-is : (b c : ℕ) (v w : List ℕ) → b ∷ v ≡ c ∷ w → v ≡ w
-rest-is b c v w e = cc
 
 written-plain : (w v : List ℕ) → allPlain w ≡ true → unescapeFrom false v ≡ some w → v ≡ w
 unfolding unescapeFrom

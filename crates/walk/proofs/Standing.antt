@@ -1,11 +1,11 @@
 -- The parts of an event's lines stand where the walk says.
-use Prim.Native.Nat.{ℕ, zero, suc, _+_, _≤_}
-use mathlib.Core.Path.{_≡_, refl, sym, ap, _∙_, subst}
+use Prim.Native.Nat.{ℕ, suc, _+_}
+use mathlib.Core.Path.{_≡_, refl, sym, ap, _∙_}
 use mathlib.Core.Bool.{Bool, true, false}
 use mathlib.Core.Option.{Option, none, some}
-use mathlib.Core.List.{List, [], _∷_, _++_, map, append-nil, append-assoc}
+use mathlib.Core.List.{List, [], _∷_, _++_, map, append-assoc}
 use lib.ListN.{length, take, drop, length-append, take-append-drop}
-use lib.Seq.{take-append-seam, drop-append-seam, drop-drop, take-at, drop-at}
+use lib.Seq.{take-append-seam, drop-append-seam, drop-drop}
 use lib.Dec.{eqb}
 use borrow.Author.Tests.{eqb-true}
 use native.Mathlib.Omega.{arith}

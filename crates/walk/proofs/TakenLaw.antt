@@ -1,5 +1,5 @@
 -- THE LAW of the walk: what it carries at the end is the event that the definition reads.
-use Prim.Native.Nat.{ℕ, _+_, _≤_, _<_}
+use Prim.Native.Nat.{ℕ, _+_, _<_}
 use mathlib.Core.Path.{_≡_, refl, sym, ap, _∙_, subst}
 use mathlib.Core.Bool.{Bool, true, false}
 use mathlib.Core.Option.{Option, none, some}
@@ -20,7 +20,8 @@ use Rattle.parts.specs.Parts.{begun, broken, withKind, withName}
 use Rattle.walk.specs.Walk.{Placed, line, placedLines, written, nameFits, onEvent, onName, step, walk, walkedLines, walked}
 use Rattle.walk.proofs.Standing.{Stands, AllStand, cons, raw-stands, decoded, decoded-lines}
 use Rattle.walk.proofs.Plain.{tag-plain}
-use Rattle.walk.proofs.WalkLaw.{Fits, yes, no, fits-of, Reads, Pairs, no-pairs, TextReads, Kept, Fitting, Stopped, Went, good, bad, Before, walkAt, walk-at, walk-stays, stopped, body}
+use Rattle.walk.specs.Reads.{Reads, Pairs, no-pairs}
+use Rattle.walk.proofs.WalkLaw.{Fits, yes, no, fits-of, TextReads, Fitting, Stopped, Went, good, bad, Before, walkAt, walk-at, walk-stays, stopped, body}
 
 name-limits : (n : List ℕ) → Fits 1 64 (legible n) (nameFits n)
 unfolding nameFits scanned

@@ -1,5 +1,5 @@
 -- The walk over an event's lines agrees with the definition: what follows the first two lines.
-use Prim.Native.Nat.{ℕ, zero, suc, _+_, _≤_, _<_}
+use Prim.Native.Nat.{ℕ, suc, _+_, _≤_, _<_}
 use mathlib.Core.Path.{_≡_, refl, sym, ap, _∙_, subst}
 use mathlib.Core.Bool.{Bool, true, false, _&&_}
 use mathlib.Core.Option.{Option, none, some}
@@ -22,7 +22,8 @@ use Rattle.parts.specs.declared.Walked.{Walked}
 use Rattle.walk.specs.Walk as W
 use Rattle.parts.specs.Parts.{broken, withKey, withValue, withText, addedValue, roomLeft}
 use Rattle.walk.specs.Walk.{Placed, line, written, fits, keyFits, valueFits, onKey, onValue, step, walk}
-use Rattle.walk.proofs.Standing.{Stands, AllStand, nil, cons, decoded}
+use Rattle.walk.specs.Reads.{Reads, PairReads, Pairs, no-pairs, pair}
+use Rattle.walk.proofs.Standing.{Stands, AllStand, cons, decoded}
 use Rattle.walk.proofs.Plain.{key-plain}
 
 -- ---- a part within its limits
@@ -67,20 +68,7 @@ room-out : (n : ℕ) → roomLeft n ≡ false → 16 ≤ n
 unfolding roomLeft
 room-out n e = ltb-false n 16 e
 
--- ---- what a description says of an event
-
-pub record Reads (raw : List ℕ) (p : Part) (v : List ℕ) : Type 0 where
-  pub shown : legible (part raw (p .at) (p .len)) ≡ some v
-  pub long : p .size ≡ length v
-
-pub record PairReads (raw : List ℕ) (p : Pair) (a : Attribute) : Type 0 where
-  pub code : p .code ≡ keyOf (a .key)
-  pub key : Reads raw (p .key) (a .key)
-  pub value : Reads raw (p .value) (a .value)
-
-pub data Pairs (raw : List ℕ) : List Pair → List Attribute → Type 0 where
-  no-pairs : Pairs raw [] []
-  pair : {p : Pair} {a : Attribute} {ps : List Pair} {ats : List Attribute} → PairReads raw p a → Pairs raw ps ats → Pairs raw (p ∷ ps) (a ∷ ats)
+-- ---- what is brought of an event
 
 -- A text, or none, by what may come next.
 pub data TextReads (raw : List ℕ) (d : Walked) : Option (List ℕ) → Type 0 where

@@ -41,7 +41,7 @@ found low high at x =
       | false ↦ record { ok = false; part = partAt 0 0 0 }
     ]
 
--- The limits of each part.
+-- "Element name 1 to 64 bytes; .. key 1 to 64; value 1,024; text 4,096."
 unfoldable pub nameFits : List ℕ → Bool
 unfolding fits scanned
 nameFits n = fits 1 (limits01 .name) (scanned n)
@@ -116,7 +116,7 @@ walkedLines raw =
     let w : Walked = walk (placedLines 0 (linesFrom [] raw)) begun in
     elim (isNil (tailFrom [] raw)) [ true ↦ w | false ↦ broken w ]
 
--- "Event lines 49,152 bytes": an event in form is shorter, so this only keeps places small.
+-- "Event lines 49,152 bytes." An event in form is shorter, so this only keeps places small.
 unfoldable pub walked : List ℕ → Walked
 unfolding walkedLines begun broken
 walked raw = elim (leb (length raw) 49152) [ true ↦ walkedLines raw | false ↦ broken begun ]

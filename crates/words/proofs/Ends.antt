@@ -1,16 +1,15 @@
 -- The end of a text: white space that trimming takes, and what an event word loses.
 use mathlib.Core.Path.{_≡_, refl, ap, sym, _∙_}
-use mathlib.Core.List.{List, [], _∷_, _++_, map, reverse, reverse-append, reverse-reverse, append-nil}
+use mathlib.Core.List.{List, [], _∷_, _++_, map, reverse, reverse-append, reverse-reverse}
 use mathlib.Core.Bool.{Bool, true, false, _&&_}
-use Prim.Native.Nat.{ℕ, zero, suc, _+_, _-_, _≤_, _<_}
-use native.Mathlib.Numerals.{add-one}
+use Prim.Native.Nat.{ℕ, suc, _+_, _-_, _≤_, _<_}
 use native.Mathlib.Omega.{arith}
 use lib.Dec.{eqb, ltb, eqb·suc-zero}
-use lib.ListN.{length, getD, take, drop, length-append, length-drop, length-reverse, length-take, drop-of-length-le}
+use lib.ListN.{length, getD, take, drop, length-drop, length-reverse, length-take, drop-of-length-le}
 use native.Mathlib.Nat.{zero-add}
 use lib.Seq.{take-all, take-suc, take-add, drop-at, take-at, take-length, length-take-le}
 use borrow.Author.Tests.{eq-eqb, ne-eqb, ltb-true, ltb-false}
-use Rattle.text.proofs.Laws.{same-length}
+use Rattle.definition.proofs.Base.{same-length}
 use Rattle.definition.specs.Text.{Piece, Span, same, trimmed, bytesAt, pieces, emit, wildcard, strippedPiece, eventWords, wordsBy, isSpace, bodyLength, leading, trim, stripLast, stripped}
 use Rattle.words.specs.Next.{gap, goes, asSpan, nextWord, pieceAt}
 use Rattle.words.specs.declared.Word.{Word}

@@ -9,7 +9,7 @@ use native.Mathlib.Omega.{arith}
 use lib.Dec.{ltb}
 use lib.ListN.{length, getD, take, drop, drop-of-length-le, length-append, length-drop}
 use lib.Seq.{drop-cons, drop-drop, length-take-le}
-use borrow.Author.Tests.{lt-ltb, le-ltb, ltb-true, ltb-false}
+use borrow.Author.Tests.{ltb-true, ltb-false}
 use Rattle.definition.specs.Text.{Piece, emit, pieces, wordsBy, isSpace, isSeparator, strippedPiece, eventWords, stateWords, stateWordsAt}
 use Rattle.words.specs.Next.{gap, run, wordAt, nextWord, pieceAt, walk, moved}
 

@@ -2,7 +2,7 @@
 use Prim.Native.Nat.{ℕ, zero, suc, _+_, _-_}
 use mathlib.Core.Bool.{Bool, true, false, _&&_}
 use mathlib.Core.List.{List, [], _∷_}
-use lib.ListN.{length, take, drop}
+use lib.ListN.{take, drop}
 use lib.Dec.{eqb, ltb}
 use Rattle.definition.specs.Text.{isSpace, isSeparator, Span, Piece}
 use Rattle.words.specs.declared.Word.{Word}

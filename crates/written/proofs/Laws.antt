@@ -2,16 +2,16 @@
 use mathlib.Core.Path.{_≡_, refl, ap, sym, _∙_}
 use mathlib.Core.List.{List, [], _∷_, _++_}
 use mathlib.Core.Bool.{Bool, true, false}
-use Prim.Native.Nat.{ℕ, zero, suc, _+_, _-_, _/_, _%_, _≤_, _<_}
+use Prim.Native.Nat.{ℕ, suc, _+_, _-_, _/_, _%_, _≤_, _<_}
 use native.Mathlib.Nat.{add-zero, zero-add, mod-eq-of-lt}
 use native.Mathlib.Numerals.{add-one}
 use native.Mathlib.Omega.{arith}
-use lib.Dec.{eqb, ltb, leb}
-use lib.ListN.{length, getD, take, drop, set, drop-of-length-le, length-append, length-set}
+use lib.Dec.{eqb}
+use lib.ListN.{length, getD, drop, set, drop-of-length-le, length-append}
 use lib.Seq.{drop-cons, sets, sets-eq, length-sets, set-comm}
 use borrow.Author.Tests.{lt-ltb, le-ltb, le-leb, lt-leb, eq-eqb, ne-eqb, eqb-true, eqb-false}
 use Rattle.words.proofs.Laws.{by}
-use Rattle.definition.specs.Text.{digits, decimal, generatedName, str, escapedQuotes, quoted, trimmed, bytesAt}
+use Rattle.definition.specs.Text.{digits, decimal, generatedName, str, escapedQuotes, quoted, trimmed}
 use Rattle.written.specs.Written.{written, writtenLength, escape, inQuotes}
 
 -- ---- runs of stores

@@ -1,7 +1,6 @@
 // Texts that the reader makes, written into a lent buffer: generated names, and an assign's text in quotes.
 use words::trim;
 ghost use mathlib.Core.Path.{_≡_};
-ghost use mathlib.Core.List.{[], _∷_, _++_};
 ghost use Prim.Native.Nat.{_+_, _%_, _≤_};
 ghost use lib.ListN.{length};
 ghost use lib.Seq.{sets};

@@ -1,8 +1,7 @@
 use Prim.{Unit}
 use lib.ListN.{length}
 use borrow.Author.Needs.{needs}
-use native.Mathlib.Omega.{arith}
-use Prim.Native.Nat.{_≤_, _-_}
+use Prim.Native.Nat.{_-_}
 use Rattle.counted.proofs.count_event.Statement.{statement}
 use Rattle.counted.proofs.count_event.Tie as tie
 use Rattle.counted.proofs.count_event.Reads as reads

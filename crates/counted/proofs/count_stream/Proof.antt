@@ -1,7 +1,6 @@
 use lib.ListN.{length}
 use borrow.Author.Needs.{needs}
-use native.Mathlib.Omega.{arith}
-use Prim.Native.Nat.{_≤_, _-_}
+use Prim.Native.Nat.{_-_}
 use Rattle.counted.proofs.count_stream.Statement.{statement}
 use Rattle.counted.proofs.count_stream.Tie as tie
 use Rattle.counted.proofs.count_stream.Reads as reads

@@ -1,6 +1,5 @@
 use lib.ListN.{length}
 use borrow.Author.Needs.{needs}
-use native.Mathlib.Omega.{arith}
 use Prim.Native.Nat.{_≤_, _-_}
 use Rattle.counted.proofs.count_words.Statement.{statement}
 use Rattle.counted.proofs.count_words.Tie as tie

@@ -1,10 +1,7 @@
 use Rattle.event.proofs.DescribeLaws.{end-shape, end-keys, end-good}
-use Prim.Native.Nat.{ℕ, _≤_, _<_, _+_, _-_}
-use mathlib.Core.Path.{_≡_, refl, sym, ap, _∙_}
-use lib.ListN.{length, drop}
-use native.Mathlib.Omega.{arith}
+use Prim.Native.Nat.{_-_}
+use mathlib.Core.Path.{_∙_}
 use borrow.Author.Tests.{not-true, not-false}
-use borrow.Author.Needs.{needs}
 use borrow.Author.Needs.{needs}
 use Rattle.event.proofs.describe.Statement.{statement}
 use Rattle.event.proofs.describe.Tie as tie
@@ -33,11 +30,11 @@ blank-with-requires-2 c κs = search needs
 returns-2 : tie.Need-returns-2
 returns-2 c = c .blank-with2 .ensures ∙ end-keys (c .before .before .before .before .before .before .before .before .args .raw .now) (c .before .before .before .before .before .before .walk-lines .result) (c .before .before .before .before .before .before .walk-lines .ensures) (c .before .before .before .before .before .holds-text .result) (c .before .before .before .before .before .holds-text .ensures) (c .before .before .before .before .shape-fits .ensures) (not-false _ (c .before .before .before .if1 .left)) (c .before .before .keys-differ .ensures) (not-true _ (c .before .if2 .taken))
 
-tell-requires : tie.Need-tell-requires
-tell-requires c κs = search needs
+description-of-requires : tie.Need-description-of-requires
+description-of-requires c κs = search needs
 
 returns-3 : tie.Need-returns-3
-returns-3 c = c .tell .ensures ∙ end-good (c .before .before .before .before .before .before .before .before .args .raw .now) (c .before .before .before .before .before .before .walk-lines .result) (c .before .before .before .before .before .before .walk-lines .ensures) (c .before .before .before .before .before .holds-text .result) (c .before .before .before .before .before .holds-text .ensures) (c .before .before .before .before .shape-fits .ensures) (not-false _ (c .before .before .before .if1 .left)) (c .before .before .keys-differ .ensures) (not-false _ (c .before .if2 .left))
+returns-3 c = c .description-of .ensures ∙ end-good (c .before .before .before .before .before .before .before .before .args .raw .now) (c .before .before .before .before .before .before .walk-lines .result) (c .before .before .before .before .before .before .walk-lines .ensures) (c .before .before .before .before .before .holds-text .result) (c .before .before .before .before .before .holds-text .ensures) (c .before .before .before .before .shape-fits .ensures) (not-false _ (c .before .before .before .if1 .left)) (c .before .before .keys-differ .ensures) (not-false _ (c .before .if2 .left))
 
 pub describe-spec : {M : Type 1} → statement M
 describe-spec =
@@ -51,5 +48,5 @@ describe-spec =
     keys-differ-requires
     blank-with-requires-2
     returns-2
-    tell-requires
+    description-of-requires
     returns-3)

@@ -5,12 +5,10 @@ use Rattle.definition.specs.Event.{legible}
 use Rattle.lines.specs.Parts.{orNothing}
 use Rattle.parts.specs.Parts.{noPair}
 use Rattle.event.specs.Described.{isAmong}
-use Rattle.event.proofs.KeyLaws.{key-read, keysFrom, among-more, among-stop, among-none, among-past}
-use Prim.Native.Nat.{ℕ, _≤_, _<_, _+_, _-_}
+use Rattle.event.proofs.KeyLaws.{key-read, keysFrom, among-more, among-stop, among-none, past-count, past-pairs}
+use Prim.Native.Nat.{ℕ, _<_, _+_, _-_}
 use mathlib.Core.Path.{_≡_, refl, sym, ap, _∙_}
-use lib.ListN.{length, drop}
 use native.Mathlib.Omega.{arith}
-use borrow.Author.Tests.{not-true, not-false}
 use borrow.Author.Needs.{needs}
 use Rattle.event.proofs.key_repeats.Statement.{statement}
 use Rattle.event.proofs.key_repeats.Tie as tie
@@ -43,7 +41,7 @@ loop-holds : tie.Need-loop-holds Inv-loop μ-loop
 loop-holds c = (search needs, refl)
 
 returns : tie.Need-returns Inv-loop μ-loop
-returns c = among-past (c .before .before .before .before .before .before .before .before .before .args .raw .now) (c .before .before .before .before .before .before .before .before .before .args .w .pairs) (c .before .before .before .before .before .before .before .before .before .args .w .count) (c .before .before .loop .j) (orNothing (legible (c .before .before .before .part-of .result .now))) (c .if1 .taken) ∙ c .before .before .loop .inv .1 ∙ ap (λ (x : List ℕ). isAmong x (keysFrom (c .before .before .before .before .before .before .before .before .before .args .raw .now) (c .before .before .before .before .before .before .before .before .before .args .w .pairs) (c .before .before .before .before .before .before .before .before .before .args .w .count) (c .before .before .before .before .before .before .before .before .before .args .i + 1))) (key-read (c .before .before .before .before .before .before .before .before .before .args .raw .now) (getD (c .before .before .before .before .before .before .before .before .before .args .w .pairs) (c .before .before .before .before .before .before .before .before .before .args .i) noPair .key) (c .before .before .before .before .before .place .result) (c .before .before .before .before .place2 .result) (c .before .before .before .part-of .result .now) (c .before .before .before .part-of .ensures) (c .before .before .before .before .before .place .ensures .0) (c .before .before .before .before .place2 .ensures .0))
+returns c = among-none (c .before .before .before .before .before .before .before .before .before .args .raw .now) (c .before .before .before .before .before .before .before .before .before .args .w .pairs) (c .before .before .before .before .before .before .before .before .before .args .w .count) (c .before .before .loop .j) (orNothing (legible (c .before .before .before .part-of .result .now))) (past-count (c .before .before .before .before .before .before .before .before .before .args .w .pairs) (c .before .before .before .before .before .before .before .before .before .args .w .count) (c .before .before .loop .j) (c .if1 .taken)) ∙ c .before .before .loop .inv .1 ∙ ap (λ (x : List ℕ). isAmong x (keysFrom (c .before .before .before .before .before .before .before .before .before .args .raw .now) (c .before .before .before .before .before .before .before .before .before .args .w .pairs) (c .before .before .before .before .before .before .before .before .before .args .w .count) (c .before .before .before .before .before .before .before .before .before .args .i + 1))) (key-read (c .before .before .before .before .before .before .before .before .before .args .raw .now) (getD (c .before .before .before .before .before .before .before .before .before .args .w .pairs) (c .before .before .before .before .before .before .before .before .before .args .i) noPair .key) (c .before .before .before .before .before .place .result) (c .before .before .before .before .place2 .result) (c .before .before .before .part-of .result .now) (c .before .before .before .part-of .ensures) (c .before .before .before .before .before .place .ensures .0) (c .before .before .before .before .place2 .ensures .0))
 
 mul-q : tie.Need-mul-q Inv-loop μ-loop
 mul-q c = search needs
@@ -76,7 +74,7 @@ loop-again : tie.Need-loop-again Inv-loop μ-loop
 loop-again c = (search needs, among-more (c .before .before .before .before .before .before .before .before .before .before .before .before .before .before .before .args .raw .now) (c .before .before .before .before .before .before .before .before .before .before .before .before .before .before .before .args .w .pairs) (c .before .before .before .before .before .before .before .before .before .before .before .before .before .before .before .args .w .count) (c .before .before .before .before .before .before .before .before .loop .j) (orNothing (legible (c .before .before .before .before .before .before .before .before .before .part-of .result .now))) (c .before .before .before .before .before .before .if1 .left) (omega (arith, simp length-map at (c .before .before .before .before .before .before .before .before .before .before .before .before .before .before .before .good .1 .0 .1 .1 .1 .1 .1 .1 .1 .1 .1 .0 .1 .0 .1))) (ap (λ (x : List ℕ). same x (orNothing (legible (c .before .before .before .before .before .before .before .before .before .part-of .result .now)))) (sym (key-read (c .before .before .before .before .before .before .before .before .before .before .before .before .before .before .before .args .raw .now) (getD (c .before .before .before .before .before .before .before .before .before .before .before .before .before .before .before .args .w .pairs) (c .before .before .before .before .before .before .before .before .loop .j) noPair .key) (c .before .before .before .before .place3 .result) (c .before .before .before .place4 .result) (c .before .before .part-of2 .result .now) (c .before .before .part-of2 .ensures) (c .before .before .before .before .place3 .ensures .0) (c .before .before .before .place4 .ensures .0))) ∙ sym (c .before .same-text .ensures) ∙ c .if2 .left) ∙ c .before .before .before .before .before .before .before .before .loop .inv .1)
 
 returns-3 : tie.Need-returns-3 Inv-loop μ-loop
-returns-3 c = among-none (c .before .before .before .before .before .before .before .before .args .raw .now) (c .before .before .before .before .before .before .before .before .args .w .pairs) (c .before .before .before .before .before .before .before .before .args .w .count) (c .before .loop .j) (orNothing (legible (c .before .before .part-of .result .now))) (omega (arith, simp length-map at (c .before .before .before .before .before .before .before .before .good .1 .0 .1 .1 .1 .1 .1 .1 .1 .1 .1 .0 .1 .0 .1))) ∙ c .before .loop .inv .1 ∙ ap (λ (x : List ℕ). isAmong x (keysFrom (c .before .before .before .before .before .before .before .before .args .raw .now) (c .before .before .before .before .before .before .before .before .args .w .pairs) (c .before .before .before .before .before .before .before .before .args .w .count) (c .before .before .before .before .before .before .before .before .args .i + 1))) (key-read (c .before .before .before .before .before .before .before .before .args .raw .now) (getD (c .before .before .before .before .before .before .before .before .args .w .pairs) (c .before .before .before .before .before .before .before .before .args .i) noPair .key) (c .before .before .before .before .place .result) (c .before .before .before .place2 .result) (c .before .before .part-of .result .now) (c .before .before .part-of .ensures) (c .before .before .before .before .place .ensures .0) (c .before .before .before .place2 .ensures .0))
+returns-3 c = among-none (c .before .before .before .before .before .before .before .before .args .raw .now) (c .before .before .before .before .before .before .before .before .args .w .pairs) (c .before .before .before .before .before .before .before .before .args .w .count) (c .before .loop .j) (orNothing (legible (c .before .before .part-of .result .now))) (past-pairs (c .before .before .before .before .before .before .before .before .args .w .pairs) (c .before .before .before .before .before .before .before .before .args .w .count) (c .before .loop .j) (omega (arith, simp length-map at (c .before .before .before .before .before .before .before .before .good .1 .0 .1 .1 .1 .1 .1 .1 .1 .1 .1 .0 .1 .0 .1)))) ∙ c .before .loop .inv .1 ∙ ap (λ (x : List ℕ). isAmong x (keysFrom (c .before .before .before .before .before .before .before .before .args .raw .now) (c .before .before .before .before .before .before .before .before .args .w .pairs) (c .before .before .before .before .before .before .before .before .args .w .count) (c .before .before .before .before .before .before .before .before .args .i + 1))) (key-read (c .before .before .before .before .before .before .before .before .args .raw .now) (getD (c .before .before .before .before .before .before .before .before .args .w .pairs) (c .before .before .before .before .before .before .before .before .args .i) noPair .key) (c .before .before .before .before .place .result) (c .before .before .before .place2 .result) (c .before .before .part-of .result .now) (c .before .before .part-of .ensures) (c .before .before .before .before .place .ensures .0) (c .before .before .before .place2 .ensures .0))
 
 pub key-repeats-spec : {M : Type 1} → statement M
 key-repeats-spec =

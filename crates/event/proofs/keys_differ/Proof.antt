@@ -1,12 +1,11 @@
 use lib.ListN.{length-map}
-use Prim.Native.Nat.{ℕ, _≤_, _<_, _+_, _-_}
-use mathlib.Core.Path.{_≡_, refl, sym, ap, _∙_}
-use lib.ListN.{length, getD, take, drop}
+use Prim.Native.Nat.{_-_}
+use mathlib.Core.Path.{_≡_, refl, sym, _∙_}
+use lib.ListN.{take}
 use native.Mathlib.Omega.{arith}
 use borrow.Author.Needs.{needs}
-use Rattle.parts.specs.Parts.{noPair}
-use Rattle.event.specs.Described.{read, pairKeys, isAmong, allDiffer}
-use Rattle.event.proofs.KeyLaws.{keysFrom, differ-more, differ-stop, differ-none, differ-past}
+use Rattle.event.specs.Described.{pairKeys, allDiffer}
+use Rattle.event.proofs.KeyLaws.{keysFrom, differ-more, differ-stop, differ-none, past-count, past-pairs}
 use Rattle.event.proofs.keys_differ.Statement.{statement}
 use Rattle.event.proofs.keys_differ.Tie as tie
 
@@ -20,7 +19,7 @@ loop-holds : tie.Need-loop-holds Inv-loop μ-loop
 loop-holds c = refl
 
 returns : tie.Need-returns Inv-loop μ-loop
-returns c = differ-past (c .before .before .before .before .args .raw .now) (c .before .before .before .before .args .w .pairs) (c .before .before .before .before .args .w .count) (c .before .before .loop .i) (c .if1 .taken) ∙ c .before .before .loop .inv
+returns c = differ-none (c .before .before .before .before .args .raw .now) (c .before .before .before .before .args .w .pairs) (c .before .before .before .before .args .w .count) (c .before .before .loop .i) (past-count (c .before .before .before .before .args .w .pairs) (c .before .before .before .before .args .w .count) (c .before .before .loop .i) (c .if1 .taken)) ∙ c .before .before .loop .inv
 
 key-repeats-requires : tie.Need-key-repeats-requires Inv-loop μ-loop
 key-repeats-requires c κs = search needs
@@ -38,7 +37,7 @@ loop-again : tie.Need-loop-again Inv-loop μ-loop
 loop-again c = differ-more (c .before .before .before .before .before .before .args .raw .now) (c .before .before .before .before .before .before .args .w .pairs) (c .before .before .before .before .before .before .args .w .count) (c .before .before .before .before .loop .i) (c .before .before .if1 .left) (omega (arith, simp length-map at (c .before .before .before .before .before .before .good .1 .0 .1 .1 .1 .1 .1 .1 .1 .1 .1 .0 .1 .0 .1))) (sym (c .before .key-repeats .ensures) ∙ c .if2 .left) ∙ c .before .before .before .before .loop .inv
 
 returns-3 : tie.Need-returns-3 Inv-loop μ-loop
-returns-3 c = differ-none (c .before .before .before .args .raw .now) (c .before .before .before .args .w .pairs) (c .before .before .before .args .w .count) (c .before .loop .i) (omega (arith, simp length-map at (c .before .before .before .good .1 .0 .1 .1 .1 .1 .1 .1 .1 .1 .1 .0 .1 .0 .1))) ∙ c .before .loop .inv
+returns-3 c = differ-none (c .before .before .before .args .raw .now) (c .before .before .before .args .w .pairs) (c .before .before .before .args .w .count) (c .before .loop .i) (past-pairs (c .before .before .before .args .w .pairs) (c .before .before .before .args .w .count) (c .before .loop .i) (omega (arith, simp length-map at (c .before .before .before .good .1 .0 .1 .1 .1 .1 .1 .1 .1 .1 .1 .0 .1 .0 .1)))) ∙ c .before .loop .inv
 
 pub keys-differ-spec : {M : Type 1} → statement M
 keys-differ-spec =

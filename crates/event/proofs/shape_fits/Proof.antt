@@ -1,10 +1,7 @@
 use Rattle.event.specs.Described.{shapeFits}
 use Rattle.event.proofs.DescribeLaws.{shape-at, shape-none}
-use lib.ListN.{length, getD, drop}
-use borrow.Author.Needs.{needs}
-use native.Mathlib.Omega.{arith}
-use mathlib.Core.Path.{_≡_, refl, sym, _∙_}
-use Prim.Native.Nat.{ℕ, _≤_, _<_, _+_, _-_}
+use mathlib.Core.Path.{refl}
+use Prim.Native.Nat.{_-_}
 use Rattle.event.proofs.shape_fits.Statement.{statement}
 use Rattle.event.proofs.shape_fits.Tie as tie
 

@@ -1,10 +1,7 @@
 use lib.ListN.{length-map}
-use Rattle.event.proofs.KeyLaws.{Summing, sum-start, sum-more, sum-past, sum-none}
-use Prim.Native.Nat.{ℕ, _≤_, _<_, _+_, _-_}
-use mathlib.Core.Path.{_≡_, refl, sym, ap, _∙_}
-use lib.ListN.{length, drop}
+use Rattle.event.proofs.KeyLaws.{Summing, sum-start, sum-more, sum-none, past-count, past-pairs}
+use Prim.Native.Nat.{_-_}
 use native.Mathlib.Omega.{arith}
-use borrow.Author.Tests.{not-true, not-false}
 use borrow.Author.Needs.{needs}
 use Rattle.event.proofs.values_len.Statement.{statement}
 use Rattle.event.proofs.values_len.Tie as tie
@@ -19,7 +16,7 @@ loop-holds : tie.Need-loop-holds Inv-loop μ-loop
 loop-holds c = sum-start (c .before .args .d .pairs) (c .before .args .d .count)
 
 returns : tie.Need-returns Inv-loop μ-loop
-returns c = sum-past (c .before .before .before .before .args .d .pairs) (c .before .before .before .before .args .d .count) (c .before .before .loop .sum) (c .before .before .loop .i) (c .before .before .loop .inv) (c .if1 .taken)
+returns c = sum-none (c .before .before .before .before .args .d .pairs) (c .before .before .before .before .args .d .count) (c .before .before .loop .sum) (c .before .before .loop .i) (c .before .before .loop .inv) (past-count (c .before .before .before .before .args .d .pairs) (c .before .before .before .before .args .d .count) (c .before .before .loop .i) (c .if1 .taken))
 
 mul-p : tie.Need-mul-p Inv-loop μ-loop
 mul-p c = search needs
@@ -43,7 +40,7 @@ loop-again : tie.Need-loop-again Inv-loop μ-loop
 loop-again c = sum-more (c .before .before .before .before .before .before .args .d .pairs) (c .before .before .before .before .before .before .args .d .count) (c .before .before .before .before .loop .sum) (c .before .before .before .before .loop .i) (c .before .before .before .before .loop .inv) (c .before .before .if1 .left) (omega (arith, simp length-map at (c .before .before .before .before .before .before .good .0 .1 .1 .1 .1 .1 .1 .1 .0 .1 .0 .1))) (c .before .before .before .loop-test .taken) (c .place .result) (c .place .ensures .0) (c .place .ensures .1)
 
 returns-2 : tie.Need-returns-2 Inv-loop μ-loop
-returns-2 c = sum-none (c .before .before .before .args .d .pairs) (c .before .before .before .args .d .count) (c .before .loop .sum) (c .before .loop .i) (c .before .loop .inv) (omega (arith, simp length-map at (c .before .before .before .good .0 .1 .1 .1 .1 .1 .1 .1 .0 .1 .0 .1)))
+returns-2 c = sum-none (c .before .before .before .args .d .pairs) (c .before .before .before .args .d .count) (c .before .loop .sum) (c .before .loop .i) (c .before .loop .inv) (past-pairs (c .before .before .before .args .d .pairs) (c .before .before .before .args .d .count) (c .before .loop .i) (omega (arith, simp length-map at (c .before .before .before .good .0 .1 .1 .1 .1 .1 .1 .1 .0 .1 .0 .1))))
 
 pub values-len-spec : {M : Type 1} → statement M
 values-len-spec =

@@ -1,10 +1,5 @@
 use Rattle.lines.proofs.ReadLaws.{head-none, head-rest}
-use Rattle.definition.specs.Text.{str}
-use borrow.Author.Tests.{not-true, not-false}
-use lib.ListN.{length, getD, drop}
-use native.Mathlib.Omega.{arith}
-use mathlib.Core.Path.{_≡_, refl, sym, _∙_}
-use Prim.Native.Nat.{ℕ, _≤_, _<_, _+_, _-_}
+use Prim.Native.Nat.{_-_}
 use borrow.Author.Needs.{needs}
 use Rattle.lines.proofs.after_head.Statement.{statement}
 use Rattle.lines.proofs.after_head.Tie as tie

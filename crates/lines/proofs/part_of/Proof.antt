@@ -1,8 +1,5 @@
 use Rattle.lines.proofs.ReadLaws.{part-none, part-rest, part-mid}
-use lib.ListN.{length, getD, drop}
-use native.Mathlib.Omega.{arith}
-use mathlib.Core.Path.{_≡_, refl, sym, _∙_}
-use Prim.Native.Nat.{ℕ, _≤_, _<_, _+_, _-_}
+use Prim.Native.Nat.{_-_}
 use borrow.Author.Needs.{needs}
 use Rattle.lines.proofs.part_of.Statement.{statement}
 use Rattle.lines.proofs.part_of.Tie as tie

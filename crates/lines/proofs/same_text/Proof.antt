@@ -1,11 +1,10 @@
 use Rattle.lines.proofs.EscapeLaws.{width-fits}
-use Rattle.lines.proofs.ReadLaws.{same-length}
+use Rattle.definition.proofs.Base.{same-length}
 use Rattle.lines.proofs.ReadLaws.{Texts, more-left, text-length, texts-start, texts-stop, texts-more, texts-end}
-use lib.ListN.{length, getD, drop}
 use borrow.Author.Needs.{needs}
 use native.Mathlib.Omega.{arith}
-use mathlib.Core.Path.{_≡_, refl, sym, _∙_}
-use Prim.Native.Nat.{ℕ, _≤_, _<_, _+_, _-_}
+use mathlib.Core.Path.{sym, _∙_}
+use Prim.Native.Nat.{_≤_, _-_}
 use Rattle.lines.proofs.same_text.Statement.{statement}
 use Rattle.lines.proofs.same_text.Tie as tie
 

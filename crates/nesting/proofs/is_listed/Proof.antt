@@ -1,11 +1,10 @@
 use Rattle.definition.specs.Elements.{among}
 use Rattle.nesting.specs.Tables.{listed}
 use Rattle.nesting.proofs.Laws.{row-end, row-zero, row-here, row-next}
-use Prim.Native.Nat.{ℕ, _≤_, _<_, _+_, _-_}
-use mathlib.Core.Path.{_≡_, refl, sym, ap, _∙_}
-use lib.ListN.{length, drop}
+use Prim.Native.Nat.{_≤_, _-_}
+use mathlib.Core.Path.{_≡_, refl, sym, _∙_}
+use lib.ListN.{drop}
 use native.Mathlib.Omega.{arith}
-use borrow.Author.Tests.{not-true, not-false}
 use borrow.Author.Needs.{needs}
 use Rattle.nesting.proofs.is_listed.Statement.{statement}
 use Rattle.nesting.proofs.is_listed.Tie as tie

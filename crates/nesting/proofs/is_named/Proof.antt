@@ -1,6 +1,5 @@
 use Rattle.nesting.specs.Tables.{rowName}
 use borrow.Author.Needs.{needs}
-use borrow.Author.Needs.{needs}
 use Rattle.nesting.proofs.is_named.Statement.{statement}
 use Rattle.nesting.proofs.is_named.Tie as tie
 

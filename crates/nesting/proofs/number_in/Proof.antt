@@ -1,9 +1,7 @@
 use Rattle.nesting.proofs.Laws.{Left, row-found, row-passed, no-row}
-use Prim.Native.Nat.{ℕ, _≤_, _<_, _+_, _-_}
-use mathlib.Core.Path.{_≡_, refl, sym, ap, _∙_}
-use lib.ListN.{length, drop}
-use native.Mathlib.Omega.{arith}
-use borrow.Author.Tests.{not-true, not-false}
+use Prim.Native.Nat.{_-_}
+use mathlib.Core.Path.{sym, _∙_}
+use lib.ListN.{length}
 use borrow.Author.Needs.{needs}
 use Rattle.nesting.proofs.number_in.Statement.{statement}
 use Rattle.nesting.proofs.number_in.Tie as tie

@@ -3,12 +3,8 @@ use lib.ListN.{getD}
 use Rattle.definition.specs.Elements.{among}
 use Rattle.nesting.specs.Tables.{parentRows, listed}
 use Rattle.nesting.proofs.Laws.{free-below, free-above, row-listed, in-table}
-use Prim.Native.Nat.{ℕ, _≤_, _<_, _+_, _-_}
-use mathlib.Core.Path.{_≡_, refl, sym, ap, _∙_}
-use lib.ListN.{length, drop}
-use native.Mathlib.Omega.{arith}
-use borrow.Author.Tests.{not-true, not-false}
-use borrow.Author.Needs.{needs}
+use Prim.Native.Nat.{ℕ, _-_}
+use mathlib.Core.Path.{ap, _∙_}
 use borrow.Author.Needs.{needs}
 use Rattle.nesting.proofs.parent_allowed.Statement.{statement}
 use Rattle.nesting.proofs.parent_allowed.Tie as tie

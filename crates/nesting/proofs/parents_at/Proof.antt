@@ -1,11 +1,7 @@
 use Rattle.definition.specs.Nesting.{nesting}
 use Rattle.nesting.specs.Tables.{parentsOf, parentRow, parentRows}
-use Prim.Native.Nat.{ℕ, _≤_, _<_, _+_, _-_}
-use mathlib.Core.Path.{_≡_, refl, sym, ap, _∙_}
-use lib.ListN.{length, drop}
-use native.Mathlib.Omega.{arith}
-use borrow.Author.Tests.{not-true, not-false}
-use borrow.Author.Needs.{needs}
+use Prim.Native.Nat.{_-_}
+use mathlib.Core.Path.{refl}
 use borrow.Author.Needs.{needs}
 use Rattle.nesting.proofs.parents_at.Statement.{statement}
 use Rattle.nesting.proofs.parents_at.Tie as tie

@@ -2,12 +2,9 @@ use Rattle.definition.specs.Text.{str}
 use Rattle.definition.specs.Elements.{elementNames}
 use Rattle.nesting.specs.Tables.{nameRow, elementRows}
 use Rattle.nesting.proofs.Laws.{tag-is, tag-small}
-use Prim.Native.Nat.{ℕ, _≤_, _<_, _+_, _-_}
-use mathlib.Core.Path.{_≡_, refl, sym, ap, _∙_}
-use lib.ListN.{length, drop}
+use Prim.Native.Nat.{_-_}
+use mathlib.Core.Path.{_≡_, refl}
 use native.Mathlib.Omega.{arith}
-use borrow.Author.Tests.{not-true, not-false}
-use borrow.Author.Needs.{needs}
 use borrow.Author.Needs.{needs}
 use Rattle.nesting.proofs.tag_of.Statement.{statement}
 use Rattle.nesting.proofs.tag_of.Tie as tie

@@ -1,11 +1,8 @@
 use Rattle.parts.specs.Parts.{withValue}
 use Rattle.parts.proofs.CodeLaws.{value-full, value-added}
-use Prim.Native.Nat.{ℕ, _≤_, _<_, _+_, _-_}
-use mathlib.Core.Path.{_≡_, refl, sym, ap, _∙_}
-use lib.ListN.{length, drop}
+use Prim.Native.Nat.{_-_}
+use mathlib.Core.Path.{_∙_}
 use native.Mathlib.Omega.{arith}
-use borrow.Author.Tests.{not-true, not-false}
-use borrow.Author.Needs.{needs}
 use borrow.Author.Needs.{needs}
 use Rattle.parts.proofs.add_value.Statement.{statement}
 use Rattle.parts.proofs.add_value.Tie as tie

@@ -1,5 +1,4 @@
 use Rattle.parts.specs.Parts.{broken}
-use borrow.Author.Needs.{needs}
 use mathlib.Core.Path.{refl}
 use Rattle.parts.proofs.break_off.Statement.{statement}
 use Rattle.parts.proofs.break_off.Tie as tie

@@ -1,9 +1,7 @@
 use Rattle.definition.specs.Text.{str}
 use Rattle.parts.proofs.CodeLaws.{kind-open, kind-empty, kind-whole, kind-end, kind-none}
-use lib.ListN.{length, getD, drop}
-use native.Mathlib.Omega.{arith}
-use mathlib.Core.Path.{_≡_, refl, sym, _∙_}
-use Prim.Native.Nat.{ℕ, _≤_, _<_, _+_, _-_}
+use mathlib.Core.Path.{sym, _∙_}
+use Prim.Native.Nat.{_-_}
 use borrow.Author.Needs.{needs}
 use Rattle.parts.proofs.kind_of.Statement.{statement}
 use Rattle.parts.proofs.kind_of.Tie as tie

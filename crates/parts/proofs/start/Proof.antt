@@ -1,5 +1,4 @@
 use Rattle.parts.specs.Parts.{begun}
-use borrow.Author.Needs.{needs}
 use mathlib.Core.Path.{refl}
 use Rattle.parts.proofs.start.Statement.{statement}
 use Rattle.parts.proofs.start.Tie as tie

@@ -1,12 +1,9 @@
 use lib.ListN.{length-map}
 use Rattle.shown.specs.Shown.{attributeOf}
 use Rattle.shown.proofs.Laws.{at-place, past-end}
-use Prim.Native.Nat.{ℕ, _≤_, _<_, _+_, _-_}
-use mathlib.Core.Path.{_≡_, refl, sym, ap, _∙_}
-use lib.ListN.{length, drop}
+use Prim.Native.Nat.{_-_}
+use mathlib.Core.Path.{_∙_}
 use native.Mathlib.Omega.{arith}
-use borrow.Author.Tests.{not-true, not-false}
-use borrow.Author.Needs.{needs}
 use borrow.Author.Needs.{needs}
 use Rattle.shown.proofs.event_attribute.Statement.{statement}
 use Rattle.shown.proofs.event_attribute.Tie as tie

@@ -1,11 +1,6 @@
 use Rattle.shown.specs.Shown.{withSum}
 use Rattle.shown.proofs.Laws.{head-is}
-use Prim.Native.Nat.{ℕ, _≤_, _<_, _+_, _-_}
-use mathlib.Core.Path.{_≡_, refl, sym, ap, _∙_}
-use lib.ListN.{length, drop}
-use native.Mathlib.Omega.{arith}
-use borrow.Author.Tests.{not-true, not-false}
-use borrow.Author.Needs.{needs}
+use Prim.Native.Nat.{_-_}
 use borrow.Author.Needs.{needs}
 use Rattle.shown.proofs.event_head.Statement.{statement}
 use Rattle.shown.proofs.event_head.Tie as tie

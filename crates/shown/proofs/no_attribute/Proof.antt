@@ -1,10 +1,6 @@
 use Rattle.shown.specs.Shown.{attributeOf}
-use Prim.Native.Nat.{ℕ, _≤_, _<_, _+_, _-_}
-use mathlib.Core.Path.{_≡_, refl, sym, ap, _∙_}
-use lib.ListN.{length, drop}
-use native.Mathlib.Omega.{arith}
-use borrow.Author.Tests.{not-true, not-false}
-use borrow.Author.Needs.{needs}
+use Prim.Native.Nat.{_-_}
+use mathlib.Core.Path.{refl}
 use Rattle.shown.proofs.no_attribute.Statement.{statement}
 use Rattle.shown.proofs.no_attribute.Tie as tie
 

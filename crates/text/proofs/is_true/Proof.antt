@@ -2,7 +2,6 @@ use Rattle.definition.specs.Text.{str, lowered, isTrue}
 use Rattle.text.proofs.Laws.{same-sym}
 use mathlib.Core.Path.{_∙_}
 use borrow.Author.Needs.{needs}
-use borrow.Author.Needs.{needs}
 use Rattle.text.proofs.is_true.Statement.{statement}
 use Rattle.text.proofs.is_true.Tie as tie
 

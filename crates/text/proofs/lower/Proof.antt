@@ -1,6 +1,5 @@
 use Rattle.text.proofs.Laws.{lower-below, lower-above, lower-letter}
 use borrow.Author.Needs.{needs}
-use borrow.Author.Needs.{needs}
 use Rattle.text.proofs.lower.Statement.{statement}
 use Rattle.text.proofs.lower.Tie as tie
 

@@ -4,7 +4,6 @@ use Prim.Native.Nat.{ℕ}
 use mathlib.Core.Path.{_∙_, ap}
 use mathlib.Core.List.{List}
 use borrow.Author.Needs.{needs}
-use borrow.Author.Needs.{needs}
 use Rattle.text.proofs.same_at.Statement.{statement}
 use Rattle.text.proofs.same_at.Tie as tie
 

@@ -1,10 +1,7 @@
 use Rattle.walk.proofs.CodeLaws.{not-found, is-found, size-small}
-use Prim.Native.Nat.{ℕ, _≤_, _<_, _+_, _-_}
-use mathlib.Core.Path.{_≡_, refl, sym, ap, _∙_}
-use lib.ListN.{length, drop}
+use Prim.Native.Nat.{_-_}
 use native.Mathlib.Omega.{arith}
 use borrow.Author.Tests.{not-true, not-false}
-use borrow.Author.Needs.{needs}
 use borrow.Author.Needs.{needs}
 use Rattle.walk.proofs.find_part.Statement.{statement}
 use Rattle.walk.proofs.find_part.Tie as tie

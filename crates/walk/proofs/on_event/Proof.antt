@@ -1,12 +1,9 @@
 use Rattle.walk.proofs.CodeLaws.{not-event, event-good}
 use Rattle.definition.specs.Text.{str}
 use Rattle.parts.specs.Parts.{withKind}
-use Prim.Native.Nat.{ℕ, _≤_, _<_, _+_, _-_}
-use mathlib.Core.Path.{_≡_, refl, sym, ap, _∙_}
-use lib.ListN.{length, drop}
-use native.Mathlib.Omega.{arith}
+use Prim.Native.Nat.{_-_}
+use mathlib.Core.Path.{sym, _∙_}
 use borrow.Author.Tests.{not-true, not-false}
-use borrow.Author.Needs.{needs}
 use borrow.Author.Needs.{needs}
 use Rattle.walk.proofs.on_event.Statement.{statement}
 use Rattle.walk.proofs.on_event.Tie as tie

@@ -1,12 +1,10 @@
 use Rattle.walk.proofs.CodeLaws.{not-name, name-bad, name-good, head-length, rest-fits}
 use Rattle.definition.specs.Text.{str}
 use Rattle.parts.specs.Parts.{withName}
-use Prim.Native.Nat.{ℕ, _≤_, _<_, _+_, _-_}
-use mathlib.Core.Path.{_≡_, refl, sym, ap, _∙_}
-use lib.ListN.{length, drop}
+use Prim.Native.Nat.{_-_}
+use mathlib.Core.Path.{sym, _∙_}
 use native.Mathlib.Omega.{arith}
 use borrow.Author.Tests.{not-true, not-false}
-use borrow.Author.Needs.{needs}
 use borrow.Author.Needs.{needs}
 use Rattle.walk.proofs.on_name.Statement.{statement}
 use Rattle.walk.proofs.on_name.Tie as tie

@@ -1,12 +1,8 @@
 use Rattle.walk.specs.Walk.{step}
 use Rattle.definition.specs.Event.{lineOf}
 use Rattle.walk.proofs.CodeLaws.{step-is, step-other}
-use Rattle.definition.specs.Text.{str}
-use borrow.Author.Tests.{not-true, not-false}
-use lib.ListN.{length, getD, drop}
-use native.Mathlib.Omega.{arith}
-use mathlib.Core.Path.{_≡_, refl, sym, _∙_}
-use Prim.Native.Nat.{ℕ, _≤_, _<_, _+_, _-_}
+use mathlib.Core.Path.{_∙_}
+use Prim.Native.Nat.{_-_}
 use borrow.Author.Needs.{needs}
 use Rattle.walk.proofs.step_on.Statement.{statement}
 use Rattle.walk.proofs.step_on.Tie as tie

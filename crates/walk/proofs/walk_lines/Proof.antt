@@ -1,9 +1,8 @@
 use Rattle.walk.proofs.LoopLaws.{Left, left-start, left-more, left-open, left-end, short-enough, too-long}
-use Prim.Native.Nat.{ℕ, _≤_, _<_, _+_, _-_}
-use mathlib.Core.Path.{_≡_, refl, sym, ap, _∙_}
-use lib.ListN.{length, drop}
+use Prim.Native.Nat.{_-_}
+use mathlib.Core.Path.{refl, _∙_}
+use lib.ListN.{length}
 use native.Mathlib.Omega.{arith}
-use borrow.Author.Tests.{not-true, not-false}
 use borrow.Author.Needs.{needs}
 use Rattle.walk.proofs.walk_lines.Statement.{statement}
 use Rattle.walk.proofs.walk_lines.Tie as tie

@@ -2,7 +2,6 @@ use Rattle.words.proofs.Ends.{star-long, star-one, strip-le}
 use mathlib.Core.Path.{sym, _∙_}
 use native.Mathlib.Omega.{arith}
 use borrow.Author.Needs.{needs}
-use borrow.Author.Needs.{needs}
 use Rattle.words.proofs.is_star.Statement.{statement}
 use Rattle.words.proofs.is_star.Tie as tie
 

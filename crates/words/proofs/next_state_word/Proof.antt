@@ -1,6 +1,5 @@
 use Rattle.words.specs.Next.{partedBy}
 use borrow.Author.Needs.{needs}
-use borrow.Author.Needs.{needs}
 use Rattle.words.proofs.next_state_word.Statement.{statement}
 use Rattle.words.proofs.next_state_word.Tie as tie
 

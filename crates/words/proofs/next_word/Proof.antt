@@ -1,6 +1,5 @@
 use Rattle.words.proofs.Laws.{next-made}
 use borrow.Author.Needs.{needs}
-use borrow.Author.Needs.{needs}
 use Rattle.words.proofs.next_word.Statement.{statement}
 use Rattle.words.proofs.next_word.Tie as tie
 

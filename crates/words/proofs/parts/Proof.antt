@@ -2,7 +2,6 @@ use Rattle.words.specs.Next.{partedBy}
 use mathlib.Core.Path.{sym, _∙_, ap}
 use mathlib.Core.Bool.{Bool}
 use borrow.Author.Needs.{needs}
-use borrow.Author.Needs.{needs}
 use Rattle.words.proofs.parts.Statement.{statement}
 use Rattle.words.proofs.parts.Tie as tie
 

@@ -1,6 +1,5 @@
 use Rattle.words.proofs.Ends.{tail-none, tail-dot, tail-one, tail-other, tail-both, tail-star}
 use borrow.Author.Needs.{needs}
-use borrow.Author.Needs.{needs}
 use Rattle.words.proofs.tail.Statement.{statement}
 use Rattle.words.proofs.tail.Tie as tie
 

@@ -2,7 +2,6 @@ use Rattle.words.specs.Next.{partedBy}
 use Rattle.words.proofs.Ends.{trim-inside, trim-made}
 use native.Mathlib.Omega.{arith}
 use borrow.Author.Needs.{needs}
-use borrow.Author.Needs.{needs}
 use Rattle.words.proofs.trim.Statement.{statement}
 use Rattle.words.proofs.trim.Tie as tie
 

@@ -4,7 +4,6 @@ use mathlib.Core.Path.{ap}
 use native.Mathlib.Omega.{arith}
 use borrow.Author.Needs.{needs}
 use lib.ListN.{length}
-use borrow.Author.Needs.{needs}
 use Rattle.written.proofs.put_escape.Statement.{statement}
 use Rattle.written.proofs.put_escape.Tie as tie
 

@@ -3,7 +3,6 @@ use lib.ListN.{length-set}
 use native.Mathlib.Omega.{arith}
 use borrow.Author.Needs.{needs}
 use Rattle.definition.specs.Text.{decimal}
-use borrow.Author.Needs.{needs}
 use Rattle.written.proofs.put_generated.Statement.{statement}
 use Rattle.written.proofs.put_generated.Tie as tie
 

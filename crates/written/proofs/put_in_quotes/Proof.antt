@@ -5,7 +5,6 @@ use native.Mathlib.Omega.{arith}
 use borrow.Author.Needs.{needs}
 use lib.ListN.{set}
 use Rattle.definition.specs.Text.{escapedQuotes}
-use borrow.Author.Needs.{needs}
 use Rattle.written.proofs.put_in_quotes.Statement.{statement}
 use Rattle.written.proofs.put_in_quotes.Tie as tie
 

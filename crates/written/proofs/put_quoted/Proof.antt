@@ -6,7 +6,6 @@ use mathlib.Core.List.{List}
 use native.Mathlib.Omega.{arith}
 use borrow.Author.Needs.{needs}
 use Rattle.written.specs.Written.{written, writtenLength, inQuotes}
-use borrow.Author.Needs.{needs}
 use Rattle.written.proofs.put_quoted.Statement.{statement}
 use Rattle.written.proofs.put_quoted.Tie as tie
 
