@@ -18,7 +18,7 @@ use Rattle.definition.specs.Rows.{
   region,
   entry,
   invoke,
-  item,
+  datum,
   parameter,
   member,
   opened,
@@ -71,8 +71,8 @@ abbrev pub invokes : Table
 invokes =
     made (table .invokes) ((invoke .state ≔ 1 ∷ invoke .autoforward ≔ 1 ∷ invoke .finalize ≔ 5 ∷ invoke .hasContent ≔ 1 ∷ []) ++ lies (invoke .src) 9 1) ∷ []
 
-abbrev pub items : Table
-items = made (table .items) ((item .state ≔ 1 ∷ []) ++ lies (item .id) 9 1 ++ lies (item .expr) 10 1) ∷ []
+abbrev pub datums : Table
+datums = made (table .datums) ((datum .state ≔ 1 ∷ []) ++ lies (datum .id) 9 1 ++ lies (datum .expr) 10 1) ∷ []
 
 abbrev pub parameters : Table
 parameters =
@@ -136,7 +136,7 @@ good =
           ∷ (regions ++ junk 3)
           ∷ (entries ++ junk 2)
           ∷ (invokes ++ junk 1)
-          ∷ (items ++ junk 1)
+          ∷ (datums ++ junk 1)
           ∷ (parameters ++ junk 1)
           ∷ (members ++ junk 5)
           ∷ (openElements ++ junk 2)

@@ -36,9 +36,9 @@ rowLimits =
     ++ fills (tag .if) (limit .entries) 5 "event=open\nname=elseif\nkey=cond\nvalue=x\n"
     ++ answers 0 (bound (limit .entries) 4 ∷ inside (tag .onentry) 1 1 4) "event=empty\nname=log\n" []
     ∷ fills (tag .state) (limit .invokes) 2 "event=open\nname=invoke\n"
-    ++ fills (tag .datamodel) (limit .items) 2 "event=empty\nname=data\nkey=id\nvalue=z\n"
+    ++ fills (tag .datamodel) (limit .datums) 2 "event=empty\nname=data\nkey=id\nvalue=z\n"
     -- "`data` repeated in a state replaces the value in its row and takes no new row."
-    ++ answers 0 (bound (limit .items) 1 ∷ inside (tag .datamodel) 1 1 4) "event=empty\nname=data\nkey=id\nvalue=i\n" []
+    ++ answers 0 (bound (limit .datums) 1 ∷ inside (tag .datamodel) 1 1 4) "event=empty\nname=data\nkey=id\nvalue=i\n" []
     ∷ fills (tag .invoke) (limit .parameters) 5 "event=open\nname=param\nkey=name\nvalue=p\n"
     -- Two event words, two targets, and the transition among its state's.
     ++ fills (tag .state) (limit .members) 14 "event=open\nname=transition\nkey=event\nvalue=x y\nkey=target\nvalue=a a\n"

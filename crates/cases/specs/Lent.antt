@@ -14,7 +14,7 @@ use Rattle.definition.specs.Rows.{
   region,
   entry,
   invoke,
-  item,
+  datum,
   parameter,
   member,
   opened,
@@ -117,8 +117,8 @@ numbers =
     ∷ spoils (table .entries) 3 (entry .else) 8
     ∷ spoils (table .invokes) 1 (invoke .state) 3
     ∷ spoils (table .invokes) 1 (invoke .finalize) 6
-    ∷ spoils (table .items) 1 (item .state) 3
-    ∷ passes (cell (table .items) 1 (item .state) 0 ∷ [])
+    ∷ spoils (table .datums) 1 (datum .state) 3
+    ∷ passes (cell (table .datums) 1 (datum .state) 0 ∷ [])
     ∷ spoils (table .parameters) 2 (parameter .owner) 3
     ∷ spoils (table .parameters) 3 (parameter .owner) 5
     ∷ spoils (table .parameters) 4 (parameter .owner) 2
@@ -174,8 +174,8 @@ texts =
     ∷ spoils (table .entries) 3 (entry .array) 0
     ∷ spoils (table .entries) 4 (entry .expr) 13
     ∷ spoils (table .invokes) 1 (invoke .src) 13
-    ∷ spoils (table .items) 1 (item .id) 13
-    ∷ spoils (table .items) 1 (item .expr) 13
+    ∷ spoils (table .datums) 1 (datum .id) 13
+    ∷ spoils (table .datums) 1 (datum .expr) 13
     ∷ spoils (table .parameters) 3 (parameter .name) 13
     ∷ spoils (table .members) 7 (member .word) 13
     -- "Names are distinct; state i's name leads to i."
@@ -202,12 +202,12 @@ counters =
     ∷ breaks (bound (limit .regions) 4 ∷ []) (tooMany (table .regions) ∷ [])
     ∷ breaks (bound (limit .entries) 3 ∷ []) (tooMany (table .entries) ∷ [])
     ∷ breaks (bound (limit .invokes) 0 ∷ []) (tooMany (table .invokes) ∷ [])
-    ∷ breaks (bound (limit .items) 0 ∷ []) (tooMany (table .items) ∷ [])
+    ∷ breaks (bound (limit .datums) 0 ∷ []) (tooMany (table .datums) ∷ [])
     ∷ breaks (bound (limit .parameters) 3 ∷ []) (tooMany (table .parameters) ∷ [])
     ∷ breaks (bound (limit .members) 8 ∷ []) (tooMany (table .members) ∷ [])
     ∷ breaks (bound (limit .opened) 2 ∷ []) (tooMany (table .opened) ∷ tooMany (table .openNames) ∷ [])
     ∷ passes (
-    bound (limit .states) 2 ∷ bound (limit .transitions) 2 ∷ bound (limit .regions) 5 ∷ bound (limit .entries) 4 ∷ bound (limit .invokes) 1 ∷ bound (limit .items) 1
+    bound (limit .states) 2 ∷ bound (limit .transitions) 2 ∷ bound (limit .regions) 5 ∷ bound (limit .entries) 4 ∷ bound (limit .invokes) 1 ∷ bound (limit .datums) 1
     ∷ bound (limit .parameters) 4 ∷ bound (limit .members) 9 ∷ bound (limit .opened) 3 ∷ [])
     -- Numbers rise along transitions and along regions, and none is both.
     ∷ breaks (cell (table .transitions) 2 (transition .number) 1 ∷ []) (falling (table .transitions) ∷ [])

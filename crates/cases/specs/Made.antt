@@ -35,7 +35,7 @@ abbrev pub limit : record {
   regions : ℕ;
   entries : ℕ;
   invokes : ℕ;
-  items : ℕ;
+  datums : ℕ;
   parameters : ℕ;
   members : ℕ;
   drawn : ℕ;
@@ -52,7 +52,7 @@ limit =
       regions = 6;
       entries = 7;
       invokes = 8;
-      items = 9;
+      datums = 9;
       parameters = 10;
       members = 11;
       drawn = 12;
@@ -73,7 +73,7 @@ limitsOf ns =
       regions = getD ns (limit .regions) 0;
       entries = getD ns (limit .entries) 0;
       invokes = getD ns (limit .invokes) 0;
-      items = getD ns (limit .items) 0;
+      datums = getD ns (limit .datums) 0;
       parameters = getD ns (limit .parameters) 0;
       members = getD ns (limit .members) 0;
       drawn = getD ns (limit .drawn) 0;
@@ -87,7 +87,7 @@ abbrev pub position : record {
   regions : ℕ;
   entries : ℕ;
   invokes : ℕ;
-  items : ℕ;
+  datums : ℕ;
   parameters : ℕ;
   members : ℕ;
   openRegions : ℕ;
@@ -106,7 +106,7 @@ position =
       regions = 3;
       entries = 4;
       invokes = 5;
-      items = 6;
+      datums = 6;
       parameters = 7;
       members = 8;
       openRegions = 9;
@@ -127,7 +127,7 @@ positionFrom ns =
       regions = getD ns (position .regions) 0;
       entries = getD ns (position .entries) 0;
       invokes = getD ns (position .invokes) 0;
-      items = getD ns (position .items) 0;
+      datums = getD ns (position .datums) 0;
       parameters = getD ns (position .parameters) 0;
       members = getD ns (position .members) 0;
       openRegions = getD ns (position .openRegions) 0;
@@ -141,7 +141,7 @@ positionFrom ns =
 
 unfoldable pub numbersOf : Position → List ℕ
 numbersOf p =
-    p .opened ∷ p .states ∷ p .transitions ∷ p .regions ∷ p .entries ∷ p .invokes ∷ p .items ∷ p .parameters ∷ p .members ∷ p .openRegions ∷ p .current ∷ p .ids
+    p .opened ∷ p .states ∷ p .transitions ∷ p .regions ∷ p .entries ∷ p .invokes ∷ p .datums ∷ p .parameters ∷ p .members ∷ p .openRegions ∷ p .current ∷ p .ids
     ∷ p .docs ∷ p .names ∷ p .used ∷ p .charge ∷ []
 
 -- ---- made-up stores and what a case alters in one

@@ -9,7 +9,7 @@ use Rattle.definition.specs.Elements.{tag}
 use Rattle.definition.specs.Rows.{Row, Table, entry, invoke, withCell, blank}
 use Rattle.definition.specs.Reader.{Call, event, reading, Answer, run}
 use Rattle.cases.specs.Made.{Made, limitsOf, positionFrom, alteredBy, Case}
-use Rattle.cases.specs.Base.{good, chartRow, states, transitions, regions, entries, invokes, items, parameters, members}
+use Rattle.cases.specs.Base.{good, chartRow, states, transitions, regions, entries, invokes, datums, parameters, members}
 use Rattle.cases.specs.Internal.{inside}
 
 abbrev reads : ℕ → ℕ → Row → Case
@@ -35,7 +35,7 @@ readings =
     -- A send and an invoke show their state's name: state 2's lies at 2, state 1's at 1.
     ∷ reads 4 2 (withCell (entry .stateName) (record { at = 2; len = 1 }) (place entries 1))
     ∷ reads 5 1 (withCell (invoke .stateName) (record { at = 1; len = 1 }) (place invokes 0))
-    ∷ reads 6 1 (place items 0)
+    ∷ reads 6 1 (place datums 0)
     ∷ reads 7 2 (place parameters 1)
     ∷ reads 7 3 (place parameters 2)
     ∷ reads 7 4 (place parameters 3)

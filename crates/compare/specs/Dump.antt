@@ -17,7 +17,7 @@ use Rattle.definition.specs.Rows.{
   region,
   entry,
   invoke,
-  item,
+  datum,
   parameter,
   member,
   opened,
@@ -37,7 +37,7 @@ use Rattle.definition.specs.Look.{openName}
 abbrev mark : record {
   state : ℕ;
   invoke : ℕ;
-  item : ℕ;
+  datum : ℕ;
   param : ℕ;
   transition : ℕ;
   region : ℕ;
@@ -49,7 +49,7 @@ mark =
     record {
       state = 9001;
       invoke = 9002;
-      item = 9003;
+      datum = 9003;
       param = 9004;
       transition = 9005;
       region = 9006;
@@ -159,7 +159,7 @@ module _ (s : Store) where
 
   unfoldable pub idOf : Row → List ℕ
   unfolding textAt cellAt
-  idOf r = textAt (s .text) (cellAt r (item .id))
+  idOf r = textAt (s .text) (cellAt r (datum .id))
 
   -- The Rust keeps data in a map: sorted by id.
   unfoldable pub sorted : Row → List Row → List Row
@@ -167,27 +167,27 @@ module _ (s : Store) where
   sorted r [] = r ∷ []
   sorted r (q ∷ qs) = elim (before (idOf r) (idOf q)) [ true ↦ r ∷ q ∷ qs | false ↦ q ∷ sorted r qs ]
 
-  unfoldable pub itemsOf : ℕ → Table → List Row
+  unfoldable pub datumsOf : ℕ → Table → List Row
   unfolding sorted
-  itemsOf o [] = []
-  itemsOf o (r ∷ rs) = elim (eqb (num r (item .state)) o) [ true ↦ sorted r (itemsOf o rs) | false ↦ itemsOf o rs ]
+  datumsOf o [] = []
+  datumsOf o (r ∷ rs) = elim (eqb (num r (datum .state)) o) [ true ↦ sorted r (datumsOf o rs) | false ↦ datumsOf o rs ]
 
   -- One of two columns has the value.
   unfoldable pub eitherText : Row → ℕ → ℕ → List ℕ
   unfolding txt
   eitherText r c d = elim (eqb (num r c) 0) [ true ↦ txt r d | false ↦ txt r c ]
 
-  unfoldable pub itemRow : Row → List ℕ
+  unfoldable pub datumRow : Row → List ℕ
   unfolding txt eitherText
-  itemRow r = mark .item ∷ txt r (item .id) ++ eitherText r (item .expr) (item .text)
+  datumRow r = mark .datum ∷ txt r (datum .id) ++ eitherText r (datum .expr) (datum .text)
 
   unfoldable pub stateRow : ℕ → Row → List ℕ
-  unfolding txt nums numbersIn donedata invokesOf itemsOf itemRow concat rowsOf
+  unfolding txt nums numbersIn donedata invokesOf datumsOf datumRow concat rowsOf
   stateRow i r =
       (mark .state ∷ i ∷ txt r (state .name))
       ++ nums r (state .doc ∷ state .initial ∷ state .parent ∷ state .parallel ∷ state .final ∷ state .history ∷ []) ++ numbersIn (list .children) i
       ++ numbersIn (list .history) i ++ numbersIn (list .onentry) i ++ numbersIn (list .onexit) i ++ numbersIn (list .transitions) i ++ donedata i r
-      ++ invokesOf i 1 1 (rowsOf (table .invokes)) ++ concat (map itemRow (itemsOf i (rowsOf (table .items))))
+      ++ invokesOf i 1 1 (rowsOf (table .invokes)) ++ concat (map datumRow (datumsOf i (rowsOf (table .datums))))
 
   unfoldable pub statesFrom : ℕ → Table → List ℕ
   unfolding stateRow

@@ -11,11 +11,11 @@ use Rattle.definition.specs.Text.{str, isAllowed, allAllowed, bytesAt, t
 use Rattle.definition.specs.Elements.{tag, tagOf}
 use Rattle.definition.specs.Event.{Attribute, Event}
 use Rattle.definition.specs.Rows.{Cell, textFrom, textAt}
-use Rattle.definition.specs.Look.{Item, valueItems, textItems, generatedItems, isGenerated, payload, itemsOf}
+use Rattle.definition.specs.Look.{Load, valueLoads, textLoads, nameLoads, isGenerated, payload, loadsOf}
 use Rattle.definition.proofs.Base.{is-true, T-of, All, All-append}
 use Rattle.definition.proofs.Words.{Total}
 use Rattle.definition.proofs.On7.{allowed-head, allowed-tail, allowed-cons, allowed-append}
-use Rattle.definition.proofs.Items.{TextAllowed, AttributesRel, EventRel}
+use Rattle.definition.proofs.Loads.{TextAllowed, AttributesRel, EventRel}
 
 pub allowed-take : (n : ℕ) (v : List ℕ) → allAllowed v ≡ true → allAllowed (take n v) ≡ true
 unfolding allAllowed
@@ -77,40 +77,40 @@ quoted-allowed v e =
 
 -- ---- the payload
 
-abbrev ItemAllowed : Item → Type 0
-ItemAllowed i = allAllowed (i .bytes) ≡ true
+abbrev LoadAllowed : Load → Type 0
+LoadAllowed i = allAllowed (i .bytes) ≡ true
 
-payload-allowed : (is : List Item) → All ItemAllowed is → allAllowed (payload is) ≡ true
+payload-allowed : (is : List Load) → All LoadAllowed is → allAllowed (payload is) ≡ true
 unfolding payload allAllowed
 payload-allowed [] a = refl
 payload-allowed (i ∷ is) a = allowed-append (i .bytes) (payload is) (a .0) (payload-allowed is (a .1))
 
-text-items : (g : ℕ) (x : Option (List ℕ)) → TextAllowed x → All ItemAllowed (textItems g x)
-unfolding textItems
-text-items g none h = tt
-text-items g (some v) h = go (eqb g (tag .assign)) refl
+text-loads : (g : ℕ) (x : Option (List ℕ)) → TextAllowed x → All LoadAllowed (textLoads g x)
+unfolding textLoads
+text-loads g none h = tt
+text-loads g (some v) h = go (eqb g (tag .assign)) refl
   where
-    go : (c : Bool) → eqb g (tag .assign) ≡ c → All ItemAllowed (textItems g (some v))
-    go true e = rw (e, textItems) (quoted-allowed v h, tt)
-    go false e = rw (e, textItems) (h, tt)
+    go : (c : Bool) → eqb g (tag .assign) ≡ c → All LoadAllowed (textLoads g (some v))
+    go true e = rw (e, textLoads) (quoted-allowed v h, tt)
+    go false e = rw (e, textLoads) (h, tt)
 
-generated-items : (c : Bool) (n : ℕ) → All ItemAllowed (generatedItems c n)
-unfolding generatedItems
-generated-items false n = tt
-generated-items true n = (generated-allowed n, tt)
+generated-loads : (c : Bool) (n : ℕ) → All LoadAllowed (nameLoads c n)
+unfolding nameLoads
+generated-loads false n = tt
+generated-loads true n = (generated-allowed n, tt)
 
 module _ (ρ : List ℕ → List ℕ) (R : Total ρ) where
-  value-items : (g : ℕ) {as₁ bs : List Attribute} → AttributesRel ρ R g as₁ bs → All ItemAllowed (valueItems as₁)
-  unfolding valueItems
-  value-items g AttributesRel.stop = tt
-  value-items g (AttributesRel.more h m) = (h .allowed, value-items g m)
+  value-loads : (g : ℕ) {as₁ bs : List Attribute} → AttributesRel ρ R g as₁ bs → All LoadAllowed (valueLoads as₁)
+  unfolding valueLoads
+  value-loads g AttributesRel.stop = tt
+  value-loads g (AttributesRel.more h m) = (h .allowed, value-loads g m)
 
-  pub added-allowed : (e f : Event) → EventRel ρ R e f → (n : ℕ) → allAllowed (payload (itemsOf (tagOf (e .name)) n e)) ≡ true
-  unfolding itemsOf
+  pub added-allowed : (e f : Event) → EventRel ρ R e f → (n : ℕ) → allAllowed (payload (loadsOf (tagOf (e .name)) n e)) ≡ true
+  unfolding loadsOf
   added-allowed e f h n =
       let g : ℕ = tagOf (e .name) in
-      let vs : List Item = valueItems (e .attributes) in
-      payload-allowed (itemsOf g n e)
-      (All-append ItemAllowed (vs ++ textItems g (e .text)) (generatedItems (isGenerated (e .kind) g vs) (suc n))
-      (All-append ItemAllowed vs (textItems g (e .text)) (value-items g (h .attributes)) (text-items g (e .text) (h .allowed)))
-      (generated-items (isGenerated (e .kind) g vs) (suc n)))
+      let vs : List Load = valueLoads (e .attributes) in
+      payload-allowed (loadsOf g n e)
+      (All-append LoadAllowed (vs ++ textLoads g (e .text)) (nameLoads (isGenerated (e .kind) g vs) (suc n))
+      (All-append LoadAllowed vs (textLoads g (e .text)) (value-loads g (h .attributes)) (text-loads g (e .text) (h .allowed)))
+      (generated-loads (isGenerated (e .kind) g vs) (suc n)))

@@ -200,7 +200,7 @@ module _ (ρ : List ℕ → List ℕ) (N : Renaming ρ) where
             regions = rowsIn n (table .regions);
             entries = rowsIn n (table .entries);
             invokes = rowsIn n (table .invokes);
-            items = rowsIn n (table .items);
+            datums = rowsIn n (table .datums);
             parameters = rowsIn n (table .parameters);
             members = rowsIn n (table .members);
             openRegions = rowsIn n (table .openRegions);

@@ -19,7 +19,7 @@ use Rattle.definition.proofs.Base.{and-left, and-right, true-is-false, 
 use Rattle.definition.proofs.SchemaFits.{sources-fit}
 use Rattle.definition.proofs.Words.{Total}
 use Rattle.definition.proofs.Names.{Held, held-none}
-use Rattle.definition.proofs.Items.{quoted-plain}
+use Rattle.definition.proofs.Loads.{quoted-plain}
 use Rattle.definition.proofs.Fields.{FieldHeld}
 use Rattle.definition.proofs.Tables.{sort, sort-number, text-at, len-at, apart, cell-other, cell-here}
 

@@ -1,4 +1,4 @@
--- Stage 1 over the items of an event and of its partner: the same fields, in places that hold the texts in both; the names renamed, at the same places.
+-- Stage 1 over the loads of an event and of its partner: the same fields, in places that hold the texts in both; the names renamed, at the same places.
 use Prim.Native.Nat.{ℕ, suc, _+_, _≤_}
 use mathlib.Core.Path.{_≡_, refl, sym, ap, ap₂, _∙_, subst, subst₂}
 use mathlib.Core.List.{List, [], _∷_, _++_, map, map-append, append-assoc}
@@ -7,40 +7,40 @@ use native.Mathlib.Omega.{arith}
 use Rattle.definition.specs.Text.{Span, bytesAt, isSeparator, noSeparator, Piece, stateWordsAt}
 use Rattle.definition.specs.Elements.{Role, name, names, masked, plain, roleOf}
 use Rattle.definition.specs.Rows.{textFrom, textAt}
-use Rattle.definition.specs.Look.{Item, payload, Field, shift, wordSpans, wordsByRole, codeByRole, fieldBy, fieldsFrom, spanOf, ownName, wordNames, namesFrom, namesBrought}
+use Rattle.definition.specs.Look.{Load, payload, Field, shift, wordSpans, wordsByRole, codeByRole, fieldBy, fieldsFrom, spanOf, ownName, wordNames, namesFrom, namesBrought}
 use Rattle.definition.specs.Renaming.{Moved}
 use Rattle.definition.proofs.Base.{All, All-append}
 use Rattle.definition.proofs.Words.{Total, Located, renamePiece, pieces-ρ, located-at, drop-past, pieces-located}
 use Rattle.definition.proofs.Names.{Held, Both}
 use Rattle.definition.proofs.Parts.{Inside, parts-inside, part-bytes}
-use Rattle.definition.proofs.Items.{past, moved-length, ItemRel, ItemsRel}
+use Rattle.definition.proofs.Loads.{past, moved-length, LoadRel, LoadsRel}
 
 module _ (ρ : List ℕ → List ℕ) (R : Total ρ) where
-  item-length : (g : ℕ) {i j : Item} → ItemRel ρ R g i j → length (j .bytes) ≡ length (i .bytes)
-  item-length g {i} {j} h = moved-length ρ R (roleOf g (i .key)) (i .bytes) (j .bytes) (h .bytes)
+  load-length : (g : ℕ) {i j : Load} → LoadRel ρ R g i j → length (j .bytes) ≡ length (i .bytes)
+  load-length g {i} {j} h = moved-length ρ R (roleOf g (i .key)) (i .bytes) (j .bytes) (h .bytes)
 
-  pub payload-length : (g : ℕ) {is js : List Item} → ItemsRel ρ R g is js → length (payload js) ≡ length (payload is)
+  pub payload-length : (g : ℕ) {is js : List Load} → LoadsRel ρ R g is js → length (payload js) ≡ length (payload is)
   unfolding payload
-  payload-length g ItemsRel.stop = refl
-  payload-length g (ItemsRel.more {i = i} {j = j} {is = is} {js = js} h m) =
-      omega (arith, length-append (i .bytes) (payload is), length-append (j .bytes) (payload js), item-length g h, payload-length g m)
+  payload-length g LoadsRel.stop = refl
+  payload-length g (LoadsRel.more {i = i} {j = j} {is = is} {js = js} h m) =
+      omega (arith, length-append (i .bytes) (payload is), length-append (j .bytes) (payload js), load-length g h, payload-length g m)
 
   -- ---- the same numbers
 
-  field-ρ : (q : Role) (g o : ℕ) (i j : Item) → j .key ≡ i .key → Moved ρ q (i .bytes) (j .bytes) → fieldBy q g o j ≡ fieldBy q g o i
+  field-ρ : (q : Role) (g o : ℕ) (i j : Load) → j .key ≡ i .key → Moved ρ q (i .bytes) (j .bytes) → fieldBy q g o j ≡ fieldBy q g o i
   unfolding fieldBy codeByRole wordsByRole
   field-ρ name g o i j e m = rw (e, m, R .len (i .bytes))
   field-ρ names g o i j e m = rw (e, moved-length ρ R names (i .bytes) (j .bytes) m)
   field-ρ masked g o i j e m = rw (e, m)
   field-ρ plain g o i j e m = rw (e, m)
 
-  pub fields-ρ : (g o : ℕ) {is js : List Item} → ItemsRel ρ R g is js → fieldsFrom g o js ≡ fieldsFrom g o is
+  pub fields-ρ : (g o : ℕ) {is js : List Load} → LoadsRel ρ R g is js → fieldsFrom g o js ≡ fieldsFrom g o is
   unfolding fieldsFrom
-  fields-ρ g o ItemsRel.stop = refl
-  fields-ρ g o (ItemsRel.more {i = i} {j = j} {is = is} {js = js} h m) =
+  fields-ρ g o LoadsRel.stop = refl
+  fields-ρ g o (LoadsRel.more {i = i} {j = j} {is = is} {js = js} h m) =
       ap₂ _∷_
       (ap (λ (k : ℕ). fieldBy (roleOf g k) g o j) (h .key) ∙ field-ρ (roleOf g (i .key)) g o i j (h .key) (h .bytes))
-      (ap (λ (n : ℕ). fieldsFrom g (o + n) js) (item-length g h) ∙ fields-ρ g (o + length (i .bytes)) m)
+      (ap (λ (n : ℕ). fieldsFrom g (o + n) js) (load-length g h) ∙ fields-ρ g (o + length (i .bytes)) m)
 
   -- ---- the names
 
@@ -59,16 +59,16 @@ module _ (ρ : List ℕ → List ℕ) (R : Total ρ) where
   words-ρ plain o v w m = refl
 
   from-ρ : (f : Role → ℕ → List ℕ → List Piece) → ((q : Role) (o : ℕ) (v w : List ℕ) → Moved ρ q v w → f q o w ≡ map (renamePiece ρ) (f q o v))
-      → (g o : ℕ) {is js : List Item} → ItemsRel ρ R g is js → namesFrom f g o js ≡ map (renamePiece ρ) (namesFrom f g o is)
+      → (g o : ℕ) {is js : List Load} → LoadsRel ρ R g is js → namesFrom f g o js ≡ map (renamePiece ρ) (namesFrom f g o is)
   unfolding namesFrom
-  from-ρ f F g o ItemsRel.stop = refl
-  from-ρ f F g o (ItemsRel.more {i = i} {j = j} {is = is} {js = js} h m) =
+  from-ρ f F g o LoadsRel.stop = refl
+  from-ρ f F g o (LoadsRel.more {i = i} {j = j} {is = is} {js = js} h m) =
       ap₂ _++_
       (ap (λ (k : ℕ). f (roleOf g k) o (j .bytes)) (h .key) ∙ F (roleOf g (i .key)) o (i .bytes) (j .bytes) (h .bytes))
-      (ap (λ (n : ℕ). namesFrom f g (o + n) js) (item-length g h) ∙ from-ρ f F g (o + length (i .bytes)) m)
+      (ap (λ (n : ℕ). namesFrom f g (o + n) js) (load-length g h) ∙ from-ρ f F g (o + length (i .bytes)) m)
       ∙ sym (map-append (renamePiece ρ) (f (roleOf g (i .key)) o (i .bytes)) (namesFrom f g (o + length (i .bytes)) is))
 
-  pub brought-ρ : (g o : ℕ) {is js : List Item} → ItemsRel ρ R g is js → namesBrought g o js ≡ map (renamePiece ρ) (namesBrought g o is)
+  pub brought-ρ : (g o : ℕ) {is js : List Load} → LoadsRel ρ R g is js → namesBrought g o js ≡ map (renamePiece ρ) (namesBrought g o is)
   unfolding namesBrought
   brought-ρ g o {is} {js} m =
       ap₂ _++_ (from-ρ ownName own-ρ g o m) (from-ρ wordNames words-ρ g o m)
@@ -93,7 +93,7 @@ module _ (ρ : List ℕ → List ℕ) (R : Total ρ) where
 
   from-located : (t : List ℕ) (f : Role → ℕ → List ℕ → List Piece)
       → ((q : Role) (o : ℕ) (v x : List ℕ) → o ≤ length t → drop o t ≡ v ++ x → All (Located t) (f q o v))
-      → (g o : ℕ) (is : List Item) (x : List ℕ) → o ≤ length t → drop o t ≡ payload is ++ x → All (Located t) (namesFrom f g o is)
+      → (g o : ℕ) (is : List Load) (x : List ℕ) → o ≤ length t → drop o t ≡ payload is ++ x → All (Located t) (namesFrom f g o is)
   unfolding namesFrom payload
   from-located t f F g o [] x k h = tt
   from-located t f F g o (i ∷ is) x k h =
@@ -101,7 +101,7 @@ module _ (ρ : List ℕ → List ℕ) (R : Total ρ) where
       All-append (Located t) (f (roleOf g (i .key)) o (i .bytes)) _ (F (roleOf g (i .key)) o (i .bytes) (payload is ++ x) k h₁)
       (from-located t f F g (o + length (i .bytes)) is x (past t o (i .bytes) (payload is ++ x) k h₁) (drop-past t o (i .bytes) (payload is ++ x) h₁))
 
-  pub brought-located : (t : List ℕ) (g o : ℕ) (is : List Item) (x : List ℕ) → o ≤ length t → drop o t ≡ payload is ++ x → All (Located t) (namesBrought g o is)
+  pub brought-located : (t : List ℕ) (g o : ℕ) (is : List Load) (x : List ℕ) → o ≤ length t → drop o t ≡ payload is ++ x → All (Located t) (namesBrought g o is)
   unfolding namesBrought
   brought-located t g o is x k h =
       All-append (Located t) (namesFrom ownName g o is) _ (from-located t ownName (own-located t) g o is x k h)
@@ -112,7 +112,7 @@ module _ (ρ : List ℕ → List ℕ) (R : Total ρ) where
     pair-pieces [] a b = tt
     pair-pieces (p ∷ ps) a b = (record { here = a .0; there = b .0 }, pair-pieces ps (a .1) (b .1))
 
-    pub brought-both : (g o : ℕ) {is js : List Item} → ItemsRel ρ R g is js → (x y : List ℕ) → o ≤ length t
+    pub brought-both : (g o : ℕ) {is js : List Load} → LoadsRel ρ R g is js → (x y : List ℕ) → o ≤ length t
         → drop o t ≡ payload is ++ x → drop o u ≡ payload js ++ y → All (Both ρ R t u) (namesBrought g o is)
     brought-both g o {is} {js} m x y k h h′ =
         pair-pieces (namesBrought g o is) (brought-located t g o is x k h)
@@ -152,11 +152,11 @@ module _ (ρ : List ℕ → List ℕ) (R : Total ρ) where
         record { inside = past t o v x l h; moved = subst₂ (Moved ρ q) (sym (located-at t o v x l h .bytes)) (sym there) m }
 
     -- EACH FIELD'S PLACES HOLD ITS TEXTS, in both
-    pub fields-held : (g o : ℕ) {is js : List Item} → ItemsRel ρ R g is js → (x y : List ℕ) → o ≤ length t
+    pub fields-held : (g o : ℕ) {is js : List Load} → LoadsRel ρ R g is js → (x y : List ℕ) → o ≤ length t
         → drop o t ≡ payload is ++ x → drop o u ≡ payload js ++ y → All (FieldHeld g) (fieldsFrom g o is)
     unfolding fieldsFrom payload fieldBy
-    fields-held g o ItemsRel.stop x y l h h′ = tt
-    fields-held g o (ItemsRel.more {i = i} {j = j} {is = is} {js = js} m ms) x y l h h′ =
+    fields-held g o LoadsRel.stop x y l h h′ = tt
+    fields-held g o (LoadsRel.more {i = i} {j = j} {is = is} {js = js} m ms) x y l h h′ =
         let q : Role = roleOf g (i .key) in
         let h₁ : drop o t ≡ i .bytes ++ (payload is ++ x) = rw append-assoc at h in
         let h₂ : drop o u ≡ j .bytes ++ (payload js ++ y) = rw append-assoc at h′ in (
@@ -165,5 +165,5 @@ module _ (ρ : List ℕ → List ℕ) (R : Total ρ) where
             words = words-held q g o (i .key) (i .bytes) (j .bytes) (payload is ++ x) (payload js ++ y) l h₁ h₂ (m .bytes);
           },
           fields-held g (o + length (i .bytes)) ms x y (past t o (i .bytes) (payload is ++ x) l h₁) (drop-past t o (i .bytes) (payload is ++ x) h₁)
-              (subst (λ (n : ℕ). drop (o + n) u ≡ payload js ++ y) (item-length g m) (drop-past u o (j .bytes) (payload js ++ y) h₂)),
+              (subst (λ (n : ℕ). drop (o + n) u ≡ payload js ++ y) (load-length g m) (drop-past u o (j .bytes) (payload js ++ y) h₂)),
         )

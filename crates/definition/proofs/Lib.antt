@@ -5,7 +5,7 @@ pub mod Words
 pub mod Names
 pub mod On7
 pub mod Parts
-pub mod Items
+pub mod Loads
 pub mod Fields
 pub mod Tables
 pub mod Edits

@@ -12,13 +12,13 @@ use native.Mathlib.Omega.{arith}
 use Rattle.definition.specs.Text.{same}
 use Rattle.definition.specs.Elements.{tag, key, Role, name, names, plain, roleOf, isMasked, isName, isNames, namesState, among, tagOf, keyOf}
 use Rattle.definition.specs.Event.{Attribute, Event}
-use Rattle.definition.specs.Rows.{Row, Table, table, state, item, schema, columnsOf, num, Cell, cellAt, textAt, Numbers, tableOf, currentState}
-use Rattle.definition.specs.Look.{Item, valueItems, isGenerated, payload, fieldsFrom, nameCells, resolve, namesBrought, idIn, findItem, itemsOf, valuesLength, eventCharge, look, oneIf, isInnermost, keptName, nameRow}
+use Rattle.definition.specs.Rows.{Row, Table, table, state, datum, schema, columnsOf, num, Cell, cellAt, textAt, Numbers, tableOf, currentState}
+use Rattle.definition.specs.Look.{Load, valueLoads, isGenerated, payload, fieldsFrom, nameCells, resolve, namesBrought, idIn, findDatum, loadsOf, valuesLength, eventCharge, look, oneIf, isInnermost, keptName, nameRow}
 use Rattle.definition.specs.Renaming.{Moved, textRole, roleAt}
 use Rattle.definition.proofs.Base.{All, elim-cond}
 use Rattle.definition.proofs.Words.{Total, renamePiece}
 use Rattle.definition.proofs.Names.{Held, held-grow, resolve-ρ}
-use Rattle.definition.proofs.Items.{moved-length, AttributesRel, EventRel, ItemsRel, items-ρ, generated-ρ}
+use Rattle.definition.proofs.Loads.{moved-length, AttributesRel, EventRel, LoadsRel, loads-ρ, generated-ρ}
 use Rattle.definition.proofs.Fields.{payload-length, fields-ρ, brought-ρ, brought-both, FieldHeld, fields-held}
 use Rattle.definition.proofs.Edits.{RowOk, TablesOk}
 
@@ -26,9 +26,9 @@ state-name-role : roleAt (table .states) (state .name) ≡ some name
 unfolding roleAt textRole columnsOf schema
 state-name-role = refl
 
-item-id-role : roleAt (table .items) (item .id) ≡ some plain
+datum-id-role : roleAt (table .datums) (datum .id) ≡ some plain
 unfolding roleAt textRole columnsOf schema
-item-id-role = refl
+datum-id-role = refl
 
 data-id-plain : roleOf (tag .datum) (key .id) ≡ plain
 unfolding roleOf isMasked isName isNames namesState among
@@ -57,23 +57,23 @@ module _ (ρ : List ℕ → List ℕ) (R : Total ρ) where
   names-held t u size (r ∷ rs) a = (a .0 (state .name) name state-name-role .1, names-held t u size rs (a .1))
 
   find-cond : (t : List ℕ) (r : Row) (rs : Table) (s : ℕ) (w : List ℕ)
-      → findItem t (r ∷ rs) s w ≡ cond (eqb (num r (item .state)) s && same (textAt t (cellAt r (item .id))) w) 1 (suc (findItem t rs s w))
-  unfolding findItem
-  find-cond t r rs s w = elim-cond (eqb (num r (item .state)) s && same (textAt t (cellAt r (item .id))) w) 1 (suc (findItem t rs s w))
+      → findDatum t (r ∷ rs) s w ≡ cond (eqb (num r (datum .state)) s && same (textAt t (cellAt r (datum .id))) w) 1 (suc (findDatum t rs s w))
+  unfolding findDatum
+  find-cond t r rs s w = elim-cond (eqb (num r (datum .state)) s && same (textAt t (cellAt r (datum .id))) w) 1 (suc (findDatum t rs s w))
 
-  find-same : (t u : List ℕ) (size : length u ≡ length t) (rs : Table) → All (RowOk ρ R t u size (table .items)) rs → (s : ℕ) (w : List ℕ)
-      → findItem u rs s w ≡ findItem t rs s w
-  unfolding findItem
+  find-same : (t u : List ℕ) (size : length u ≡ length t) (rs : Table) → All (RowOk ρ R t u size (table .datums)) rs → (s : ℕ) (w : List ℕ)
+      → findDatum u rs s w ≡ findDatum t rs s w
+  unfolding findDatum
   find-same t u size [] a s w = refl
   find-same t u size (r ∷ rs) a s w =
       find-cond u r rs s w
-      ∙ ap₂ (λ (x : List ℕ) (n : ℕ). cond (eqb (num r (item .state)) s && same x w) 1 (suc n)) (a .0 (item .id) plain item-id-role .1 .moved) (find-same t u size rs (a .1) s w)
+      ∙ ap₂ (λ (x : List ℕ) (n : ℕ). cond (eqb (num r (datum .state)) s && same x w) 1 (suc n)) (a .0 (datum .id) plain datum-id-role .1 .moved) (find-same t u size rs (a .1) s w)
       ∙ sym (find-cond t r rs s w)
 
-  id-same : (g : ℕ) → roleOf g (key .id) ≡ plain → {is js : List Item} → ItemsRel ρ R g is js → idIn js ≡ idIn is
+  id-same : (g : ℕ) → roleOf g (key .id) ≡ plain → {is js : List Load} → LoadsRel ρ R g is js → idIn js ≡ idIn is
   unfolding idIn
-  id-same g p ItemsRel.stop = refl
-  id-same g p (ItemsRel.more {i = i} {j = j} {is = is} {js = js} h m) = go (eqb (i .key) (key .id)) refl (id-same g p m)
+  id-same g p LoadsRel.stop = refl
+  id-same g p (LoadsRel.more {i = i} {j = j} {is = is} {js = js} h m) = go (eqb (i .key) (key .id)) refl (id-same g p m)
     where
       go : (c : Bool) → eqb (i .key) (key .id) ≡ c → idIn js ≡ idIn is → idIn (j ∷ js) ≡ idIn (i ∷ is)
       go true e ih =
@@ -100,11 +100,11 @@ module _ (ρ : List ℕ → List ℕ) (R : Total ρ) where
     abbrev g : ℕ
     g = tagOf (e .name)
 
-    abbrev is : List Item
-    is = itemsOf g (n .names) e
+    abbrev is : List Load
+    is = loadsOf g (n .names) e
 
-    abbrev js : List Item
-    js = itemsOf (tagOf (f .name)) (n .names) f
+    abbrev js : List Load
+    js = loadsOf (tagOf (f .name)) (n .names) f
 
     abbrev t₂ : List ℕ
     t₂ = t ++ payload is
@@ -112,8 +112,8 @@ module _ (ρ : List ℕ → List ℕ) (R : Total ρ) where
     abbrev u₂ : List ℕ
     u₂ = u ++ payload js
 
-    m : ItemsRel ρ R g is js
-    m = items-ρ ρ R e f h (n .names)
+    m : LoadsRel ρ R g is js
+    m = loads-ρ ρ R e f h (n .names)
 
     pub size₂ : length u₂ ≡ length t₂
     size₂ = omega (arith, length-append u (payload js), length-append t (payload is), payload-length ρ R g m)
@@ -153,21 +153,21 @@ module _ (ρ : List ℕ → List ℕ) (R : Total ρ) where
         ap₂ (λ (x o : ℕ). resolve u₂ cells (namesBrought x o js)) (ap tagOf (h .name)) size
         ∙ ap (resolve u₂ cells) (brought-ρ ρ R g (length t) m) ∙ resolved .0
 
-    generated-same : isGenerated (f .kind) (tagOf (f .name)) (valueItems (f .attributes)) ≡ isGenerated (e .kind) g (valueItems (e .attributes))
+    generated-same : isGenerated (f .kind) (tagOf (f .name)) (valueLoads (f .attributes)) ≡ isGenerated (e .kind) g (valueLoads (e .attributes))
     generated-same = rw (h .kind, h .name) (generated-ρ ρ R (e .kind) g (h .attributes))
 
-    abbrev foundIn : List ℕ → ℕ → List Item → ℕ
-    foundIn v x ks = elim (eqb x (tag .datum)) as (λ b. ℕ) [ true ↦ findItem v (tableOf n (table .items)) (currentState n) (idIn ks) | false ↦ 0 ]
+    abbrev foundIn : List ℕ → ℕ → List Load → ℕ
+    foundIn v x ks = elim (eqb x (tag .datum)) as (λ b. ℕ) [ true ↦ findDatum v (tableOf n (table .datums)) (currentState n) (idIn ks) | false ↦ 0 ]
 
-    found-cond : (v : List ℕ) (x : ℕ) (ks : List Item) → foundIn v x ks ≡ cond (eqb x (tag .datum)) (findItem v (tableOf n (table .items)) (currentState n) (idIn ks)) 0
-    found-cond v x ks = elim-cond (eqb x (tag .datum)) (findItem v (tableOf n (table .items)) (currentState n) (idIn ks)) 0
+    found-cond : (v : List ℕ) (x : ℕ) (ks : List Load) → foundIn v x ks ≡ cond (eqb x (tag .datum)) (findDatum v (tableOf n (table .datums)) (currentState n) (idIn ks)) 0
+    found-cond v x ks = elim-cond (eqb x (tag .datum)) (findDatum v (tableOf n (table .datums)) (currentState n) (idIn ks)) 0
 
     data-same : eqb g (tag .datum) ≡ true
-        → findItem u₂ (tableOf n (table .items)) (currentState n) (idIn js) ≡ findItem t₂ (tableOf n (table .items)) (currentState n) (idIn is)
+        → findDatum u₂ (tableOf n (table .datums)) (currentState n) (idIn js) ≡ findDatum t₂ (tableOf n (table .datums)) (currentState n) (idIn is)
     data-same q =
         let p : roleOf g (key .id) ≡ plain = ap (λ (x : ℕ). roleOf x (key .id)) (eqb-true g (tag .datum) q) ∙ data-id-plain in
-        ap (findItem u₂ (tableOf n (table .items)) (currentState n)) (id-same g p m)
-        ∙ find-same t₂ u₂ size₂ (tableOf n (table .items)) (ok₂ (table .items)) (currentState n) (idIn is)
+        ap (findDatum u₂ (tableOf n (table .datums)) (currentState n)) (id-same g p m)
+        ∙ find-same t₂ u₂ size₂ (tableOf n (table .datums)) (ok₂ (table .datums)) (currentState n) (idIn is)
 
     cond-same : (c : Bool) (x y : ℕ) → (c ≡ true → x ≡ y) → cond c x 0 ≡ cond c y 0
     cond-same true x y k = k refl

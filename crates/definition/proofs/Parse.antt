@@ -11,7 +11,7 @@ use Rattle.definition.specs.Event.{Line, lineOf, linesFrom, tailFrom, is
 use Rattle.definition.specs.Renaming.{Renaming, Moved, ValueRel, LinesRel, lastLine, allLines, tagWritten, keyWritten, elementIn, keyBefore, isFree}
 use Rattle.definition.proofs.Base.{true-is-false, none-is-some, some-inj}
 use Rattle.definition.proofs.On7.{on7, total, moved-7}
-use Rattle.definition.proofs.Items.{TextAllowed, AttributesRel, EventRel}
+use Rattle.definition.proofs.Loads.{TextAllowed, AttributesRel, EventRel}
 
 -- Both are out of form, or both in form and related.
 pub data OptRel {A : Type 0} (P : A → A → Type 0) : Option A → Option A → Type 0 where

@@ -12,11 +12,11 @@ use Rattle.definition.specs.Text.{same, allAllowed}
 use Rattle.definition.specs.Elements.{roleOf, tagOf, keyOf}
 use Rattle.definition.specs.Event.{Attribute, Event, noAttributes, kindFits, between, textFits, attributesFit, inForm, hasKey, keysDiffer}
 use Rattle.definition.specs.Rows.{Numbers, Store}
-use Rattle.definition.specs.Look.{Look, look, textAfter, payload, itemsOf}
+use Rattle.definition.specs.Look.{Look, look, textAfter, payload, loadsOf}
 use Rattle.definition.specs.Reader.{Verdict, accept, reject, decided, Reply, settled, replyTo}
 use Rattle.definition.proofs.Words.{Total}
 use Rattle.definition.proofs.On7.{allowed-append}
-use Rattle.definition.proofs.Items.{moved-length, AttributesRel, EventRel}
+use Rattle.definition.proofs.Loads.{moved-length, AttributesRel, EventRel}
 use Rattle.definition.proofs.Edits.{TablesOk}
 use Rattle.definition.proofs.Steps.{VerdictOk, decided-ok}
 use Rattle.definition.proofs.Looks.{tables-grow, size₂, ok₂, held, known-held, look-same}
@@ -140,10 +140,10 @@ module _ (ρ : List ℕ → List ℕ) (R : Total ρ) where
 
     module _ (e f : Event) (h : EventRel ρ R e f) where
       abbrev added : List ℕ
-      added = payload (itemsOf (tagOf (e .name)) (n .names) e)
+      added = payload (loadsOf (tagOf (e .name)) (n .names) e)
 
       abbrev added₂ : List ℕ
-      added₂ = payload (itemsOf (tagOf (f .name)) (n .names) f)
+      added₂ = payload (loadsOf (tagOf (f .name)) (n .names) f)
 
       grown : length (u ++ added₂) ≡ length (t ++ added)
       grown = size₂ ρ R n t u size ok e f h

@@ -8,45 +8,45 @@ use lib.Dec.{eqb, ltb}
 use Rattle.definition.specs.Text.{same, placeIn, lowered, isTrue, Span, Piece, eventWords, stateWords, stateWordsAt, wildcard, trim, quoted, generatedName}
 use Rattle.definition.specs.Elements.{tag, key, Role, name, names, masked, plain, roleOf, namesState, keyOf, tagOf, codings, wordsTaken}
 use Rattle.definition.specs.Event.{Attribute, Event, kind}
-use Rattle.definition.specs.Rows.{Row, Table, table, state, item, opened, num, Cell, cellAt, textAt, Numbers, tableOf, Store, innermost, currentState}
+use Rattle.definition.specs.Rows.{Row, Table, table, state, datum, opened, num, Cell, cellAt, textAt, Numbers, tableOf, Store, innermost, currentState}
 
 -- ---- an event's payload: what an accepted event adds to the text
 
 -- A value with its key's number; or the text, or a generated name.
-pub record Item : Type 0 where
+pub record Load : Type 0 where
   pub key : ℕ
   pub bytes : List ℕ
 
-unfoldable pub valueItems : List Attribute → List Item
+unfoldable pub valueLoads : List Attribute → List Load
 unfolding keyOf
-valueItems [] = []
-valueItems (a ∷ ats) = record { key = keyOf (a .key); bytes = a .value } ∷ valueItems ats
+valueLoads [] = []
+valueLoads (a ∷ ats) = record { key = keyOf (a .key); bytes = a .value } ∷ valueLoads ats
 
 -- An assign's text stands in its quoted form.
-unfoldable pub textItems : ℕ → Option (List ℕ) → List Item
+unfoldable pub textLoads : ℕ → Option (List ℕ) → List Load
 unfolding quoted
-textItems g none = []
-textItems g (some v) =
+textLoads g none = []
+textLoads g (some v) =
     elim (eqb g (tag .assign)) [
       | true ↦ record { key = key .quoted; bytes = quoted v } ∷ []
       | false ↦ record { key = key .text; bytes = v } ∷ []
     ]
 
-unfoldable pub hasItem : ℕ → List Item → Bool
-hasItem k [] = false
-hasItem k (i ∷ is) = elim (eqb (i .key) k) [ true ↦ true | false ↦ hasItem k is ]
+unfoldable pub hasLoad : ℕ → List Load → Bool
+hasLoad k [] = false
+hasLoad k (i ∷ is) = elim (eqb (i .key) k) [ true ↦ true | false ↦ hasLoad k is ]
 
 -- "Without `id` the name is `__id` and a count from 1."
-unfoldable pub isGenerated : ℕ → ℕ → List Item → Bool
-unfolding namesState hasItem
-isGenerated k g is = not (eqb k (kind .ends)) && namesState g && not (hasItem (key .id) is)
+unfoldable pub isGenerated : ℕ → ℕ → List Load → Bool
+unfolding namesState hasLoad
+isGenerated k g is = not (eqb k (kind .ends)) && namesState g && not (hasLoad (key .id) is)
 
-unfoldable pub generatedItems : Bool → ℕ → List Item
+unfoldable pub nameLoads : Bool → ℕ → List Load
 unfolding generatedName
-generatedItems false n = []
-generatedItems true n = record { key = key .id; bytes = generatedName n } ∷ []
+nameLoads false n = []
+nameLoads true n = record { key = key .id; bytes = generatedName n } ∷ []
 
-unfoldable pub payload : List Item → List ℕ
+unfoldable pub payload : List Load → List ℕ
 payload [] = []
 payload (i ∷ is) = i .bytes ++ payload is
 
@@ -112,7 +112,7 @@ codeByRole names g k v = 0
 codeByRole masked g k v = 0
 codeByRole plain g k v = codeOf g k v
 
-unfoldable pub fieldBy : Role → ℕ → ℕ → Item → Field
+unfoldable pub fieldBy : Role → ℕ → ℕ → Load → Field
 unfolding codeByRole wordsByRole
 fieldBy r g o i =
     record {
@@ -123,7 +123,7 @@ fieldBy r g o i =
     }
 
 -- The payload begins at o.
-unfoldable pub fieldsFrom : ℕ → ℕ → List Item → List Field
+unfoldable pub fieldsFrom : ℕ → ℕ → List Load → List Field
 unfolding fieldBy roleOf
 fieldsFrom g o [] = []
 fieldsFrom g o (i ∷ is) = fieldBy (roleOf g (i .key)) g o i ∷ fieldsFrom g (o + length (i .bytes)) is
@@ -144,13 +144,13 @@ wordNames names o v = stateWordsAt o v
 wordNames masked o v = []
 wordNames plain o v = []
 
-unfoldable pub namesFrom : (Role → ℕ → List ℕ → List Piece) → ℕ → ℕ → List Item → List Piece
+unfoldable pub namesFrom : (Role → ℕ → List ℕ → List Piece) → ℕ → ℕ → List Load → List Piece
 unfolding roleOf
 namesFrom f g o [] = []
 namesFrom f g o (i ∷ is) = f (roleOf g (i .key)) o (i .bytes) ++ namesFrom f g (o + length (i .bytes)) is
 
 -- The element's own name stands first, then the words of `initial` or `target`, in order.
-unfoldable pub namesBrought : ℕ → ℕ → List Item → List Piece
+unfoldable pub namesBrought : ℕ → ℕ → List Load → List Piece
 unfolding namesFrom ownName wordNames
 namesBrought g o is = namesFrom ownName g o is ++ namesFrom wordNames g o is
 
@@ -187,15 +187,15 @@ nameCells (r ∷ rs) = cellAt r (state .name) ∷ nameCells rs
 
 -- ---- data by id
 
-unfoldable pub idIn : List Item → List ℕ
+unfoldable pub idIn : List Load → List ℕ
 idIn [] = []
 idIn (i ∷ is) = elim (eqb (i .key) (key .id)) [ true ↦ i .bytes | false ↦ idIn is ]
 
 -- "`data` repeated in a state replaces the value in its row": the row's number from 1; the next one if there is none. Other elements' ids are not looked up.
-unfoldable pub findItem : List ℕ → Table → ℕ → List ℕ → ℕ
+unfoldable pub findDatum : List ℕ → Table → ℕ → List ℕ → ℕ
 unfolding same textAt cellAt
-findItem t [] s w = 1
-findItem t (r ∷ rs) s w = elim (eqb (num r (item .state)) s && same (textAt t (cellAt r (item .id))) w) [ true ↦ 1 | false ↦ suc (findItem t rs s w) ]
+findDatum t [] s w = 1
+findDatum t (r ∷ rs) s w = elim (eqb (num r (datum .state)) s && same (textAt t (cellAt r (datum .id))) w) [ true ↦ 1 | false ↦ suc (findDatum t rs s w) ]
 
 -- ---- the innermost open name
 
@@ -239,32 +239,32 @@ pub record Look : Type 0 where
   pub name : Row
   pub nameLength : ℕ
 
-unfoldable pub itemsOf : ℕ → ℕ → Event → List Item
-unfolding valueItems textItems generatedItems isGenerated
-itemsOf g n e =
-    let vs : List Item = valueItems (e .attributes) in
-    vs ++ textItems g (e .text) ++ generatedItems (isGenerated (e .kind) g vs) (suc n)
+unfoldable pub loadsOf : ℕ → ℕ → Event → List Load
+unfolding valueLoads textLoads nameLoads isGenerated
+loadsOf g n e =
+    let vs : List Load = valueLoads (e .attributes) in
+    vs ++ textLoads g (e .text) ++ nameLoads (isGenerated (e .kind) g vs) (suc n)
 
 unfoldable pub valuesLength : List Attribute → ℕ
 valuesLength [] = 0
 valuesLength (a ∷ ats) = length (a .value) + valuesLength ats
 
 unfoldable pub eventCharge : ℕ → ℕ → Event → ℕ
-unfolding valuesLength textCharge payload generatedItems isGenerated valueItems
+unfolding valuesLength textCharge payload nameLoads isGenerated valueLoads
 eventCharge g n e =
-    valuesLength (e .attributes) + textCharge g (e .text) + length (payload (generatedItems (isGenerated (e .kind) g (valueItems (e .attributes))) (suc n)))
+    valuesLength (e .attributes) + textCharge g (e .text) + length (payload (nameLoads (isGenerated (e .kind) g (valueLoads (e .attributes))) (suc n)))
 
 -- The text as it would be after the event.
 unfoldable pub textAfter : Store → Event → List ℕ
-unfolding payload itemsOf tagOf
-textAfter s e = s .text ++ payload (itemsOf (tagOf (e .name)) (s .numbers .names) e)
+unfolding payload loadsOf tagOf
+textAfter s e = s .text ++ payload (loadsOf (tagOf (e .name)) (s .numbers .names) e)
 
 unfoldable pub look : Store → Event → Look
-unfolding tagOf itemsOf fieldsFrom resolve nameCells namesBrought oneIf isGenerated valueItems eventCharge findItem idIn currentState isInnermost keptName nameRow payload
+unfolding tagOf loadsOf fieldsFrom resolve nameCells namesBrought oneIf isGenerated valueLoads eventCharge findDatum idIn currentState isInnermost keptName nameRow payload
 look s e =
     let g : ℕ = tagOf (e .name) in
     let n : Numbers = s .numbers in
-    let is : List Item = itemsOf g (n .names) e in
+    let is : List Load = loadsOf g (n .names) e in
     let t : List ℕ = s .text ++ payload is in
     let o : ℕ = length (s .text) in
     let r : Resolved = resolve t (nameCells (tableOf n (table .states))) (namesBrought g o is) in
@@ -274,10 +274,10 @@ look s e =
       fields = fieldsFrom g o is;
       refs = r .refs;
       known = r .known;
-      generated = oneIf (isGenerated (e .kind) g (valueItems (e .attributes)));
+      generated = oneIf (isGenerated (e .kind) g (valueLoads (e .attributes)));
       charge = eventCharge g (n .names) e;
       base = o;
-      found = elim (eqb g (tag .datum)) [ true ↦ findItem t (tableOf n (table .items)) (currentState n) (idIn is) | false ↦ 0 ];
+      found = elim (eqb g (tag .datum)) [ true ↦ findDatum t (tableOf n (table .datums)) (currentState n) (idIn is) | false ↦ 0 ];
       innermost = isInnermost (tableOf n (table .opened)) (tableOf n (table .openNames)) g (e .name);
       name = nameRow (keptName g (e .name));
       nameLength = length (keptName g (e .name));

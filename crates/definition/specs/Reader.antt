@@ -282,7 +282,7 @@ pub record Position : Type 0 where
   pub regions : ℕ
   pub entries : ℕ
   pub invokes : ℕ
-  pub items : ℕ
+  pub datums : ℕ
   pub parameters : ℕ
   pub members : ℕ
   pub openRegions : ℕ
@@ -295,7 +295,7 @@ pub record Position : Type 0 where
 
 unfoldable pub counts : Position → List ℕ
 counts p =
-    1 ∷ p .states ∷ p .transitions ∷ p .regions ∷ p .entries ∷ p .invokes ∷ p .items ∷ p .parameters ∷ p .members ∷ p .opened ∷ p .opened ∷ p .openRegions ∷ []
+    1 ∷ p .states ∷ p .transitions ∷ p .regions ∷ p .entries ∷ p .invokes ∷ p .datums ∷ p .parameters ∷ p .members ∷ p .opened ∷ p .opened ∷ p .openRegions ∷ []
 
 unfoldable pub taken : List ℕ → List Table → List Table
 taken [] ts = []
@@ -325,7 +325,7 @@ positionOf s =
       regions = rowsIn n (table .regions);
       entries = rowsIn n (table .entries);
       invokes = rowsIn n (table .invokes);
-      items = rowsIn n (table .items);
+      datums = rowsIn n (table .datums);
       parameters = rowsIn n (table .parameters);
       members = rowsIn n (table .members);
       openRegions = rowsIn n (table .openRegions);
@@ -453,7 +453,7 @@ start =
       regions = 0;
       entries = 0;
       invokes = 0;
-      items = 0;
+      datums = 0;
       parameters = 0;
       members = 0;
       openRegions = 0;

@@ -23,7 +23,7 @@ abbrev pub table : record {
   regions : ℕ;
   entries : ℕ;
   invokes : ℕ;
-  items : ℕ;
+  datums : ℕ;
   parameters : ℕ;
   members : ℕ;
   opened : ℕ;
@@ -38,7 +38,7 @@ table =
       regions = 3;
       entries = 4;
       invokes = 5;
-      items = 6;
+      datums = 6;
       parameters = 7;
       members = 8;
       opened = 9;
@@ -285,13 +285,13 @@ invoke =
     }
 
 -- A row of the data: its value is in one of two columns.
-abbrev pub item : record {
+abbrev pub datum : record {
   state : ℕ;
   id : ℕ;
   expr : ℕ;
   text : ℕ;
 }
-item =
+datum =
     record {
       state = 0;
       id = 1;
@@ -494,8 +494,8 @@ invokeColumns =
     ∷ text name ∷ len  -- stateName
     ∷ replicate 2 free
 
-unfoldable pub itemColumns : List Class
-itemColumns =
+unfoldable pub datumColumns : List Class
+datumColumns =
     row (table .states)  -- state
     ∷ text plain ∷ len  -- id
     ∷ text masked ∷ len  -- expr
@@ -534,9 +534,9 @@ openRegionColumns =
     ∷ replicate 6 free
 
 unfoldable pub schema : List (List Class)
-unfolding chartColumns stateColumns transitionColumns regionColumns entryColumns invokeColumns itemColumns parameterColumns memberColumns openedColumns openRegionColumns
+unfolding chartColumns stateColumns transitionColumns regionColumns entryColumns invokeColumns datumColumns parameterColumns memberColumns openedColumns openRegionColumns
 schema =
-    chartColumns ∷ stateColumns ∷ transitionColumns ∷ regionColumns ∷ entryColumns ∷ invokeColumns ∷ itemColumns ∷ parameterColumns ∷ memberColumns
+    chartColumns ∷ stateColumns ∷ transitionColumns ∷ regionColumns ∷ entryColumns ∷ invokeColumns ∷ datumColumns ∷ parameterColumns ∷ memberColumns
     ∷ openedColumns ∷ replicate 64 free ∷ openRegionColumns ∷ []
 
 unfoldable pub columnsOf : ℕ → List Class

@@ -162,7 +162,7 @@ openRegionsFit n =
 
 -- The limit of each table's rows; the chart has one row.
 unfoldable pub chartLimits : Limits → List ℕ
-chartLimits L = 1 ∷ L .states ∷ L .transitions ∷ L .regions ∷ L .entries ∷ L .invokes ∷ L .items ∷ L .parameters ∷ L .members ∷ []
+chartLimits L = 1 ∷ L .states ∷ L .transitions ∷ L .regions ∷ L .entries ∷ L .invokes ∷ L .datums ∷ L .parameters ∷ L .members ∷ []
 
 -- Question 7 keeps the open elements; two open regions for each are enough.
 unfoldable pub openLimits : Limits → List ℕ

@@ -6,7 +6,7 @@ use mathlib.Core.List.{List, [], _∷_}
 use lib.ListN.{getD}
 use lib.Dec.{eqb}
 use Rattle.definition.specs.Elements.{tag, key, Role, name, names, masked, plain, roleOf}
-use Rattle.definition.specs.Rows.{table, chart, state, transition, entry, invoke, item, parameter, member, Class, free, own, docId, above, mark, len, code, row, existing, text, by, columnsOf}
+use Rattle.definition.specs.Rows.{table, chart, state, transition, entry, invoke, datum, parameter, member, Class, free, own, docId, above, mark, len, code, row, existing, text, by, columnsOf}
 
 -- Where a text column's text comes from.
 --   absent    none
@@ -78,8 +78,8 @@ shapesByElement =
     ∷ shaped (tag .transition) (shape (table .transitions) (transition .cond ⇐ value (key .cond) ∷ []) ∷ shape (table .members) (member .word ⇐ word (key .event) ∷ []) ∷ [])
     ∷ shaped (tag .donedata) (shape (table .states) (state .text ⇐ absent ∷ state .expr ⇐ absent ∷ []) ∷ [])
     ∷ shaped (tag .datum) (
-    shape (table .items) (item .id ⇐ value (key .id) ∷ item .expr ⇐ value (key .expr) ∷ item .text ⇐ absent ∷ [])
-    ∷ shape (table .items) (item .id ⇐ value (key .id) ∷ item .expr ⇐ absent ∷ item .text ⇐ content ∷ [])
+    shape (table .datums) (datum .id ⇐ value (key .id) ∷ datum .expr ⇐ value (key .expr) ∷ datum .text ⇐ absent ∷ [])
+    ∷ shape (table .datums) (datum .id ⇐ value (key .id) ∷ datum .expr ⇐ absent ∷ datum .text ⇐ content ∷ [])
     ∷ [])
     ∷ shaped (tag .invoke) (shape (table .invokes) ofInvoke ∷ shape (table .members) (member .word ⇐ word (key .namelist) ∷ []) ∷ [])
     ∷ shaped (tag .send) (shape (table .entries) ofSend ∷ shape (table .members) (member .word ⇐ word (key .namelist) ∷ []) ∷ [])

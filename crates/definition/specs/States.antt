@@ -5,7 +5,7 @@ use mathlib.Core.List.{List, [], _∷_}
 use lib.ListN.{length, getD}
 use lib.Dec.{eqb}
 use Rattle.definition.specs.Elements.{key, among}
-use Rattle.definition.specs.Rows.{table, list, chart, state, transition, item, num, rowOf, internal, shallow, Numbers, tableOf, listed, valuesOf, currentState, root}
+use Rattle.definition.specs.Rows.{table, list, chart, state, transition, datum, num, rowOf, internal, shallow, Numbers, tableOf, listed, valuesOf, currentState, root}
 use Rattle.definition.specs.Look.{Look}
 use Rattle.definition.specs.Change.{_≔_, numbers, shape, Change, Outcome, done, refuse, _▷_, nothing, adding, altering, nextId, nextDoc, drawId, drawDoc, inState, addMember, addMembers, unlessZero, has, codeFor}
 
@@ -151,7 +151,7 @@ unfoldable pub startData : Numbers → Look → Outcome
 unfolding unlessZero currentState nothing adding altering valueShape
 startData n l =
     unlessZero (currentState n) (
-    elim (eqb (l .found) (suc (length (tableOf n (table .items))))) [
-      | true ↦ done (nothing n ▷ adding (shape (valueShape l)) (item .state ≔ currentState n ∷ []))
+    elim (eqb (l .found) (suc (length (tableOf n (table .datums))))) [
+      | true ↦ done (nothing n ▷ adding (shape (valueShape l)) (datum .state ≔ currentState n ∷ []))
       | false ↦ done (nothing n ▷ altering (shape (valueShape l)) (l .found) [])
     ])

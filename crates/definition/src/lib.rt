@@ -17,7 +17,7 @@ pub struct Limits {
     pub regions: u32,
     pub entries: u32,
     pub invokes: u32,
-    pub items: u32,
+    pub datums: u32,
     pub parameters: u32,
     pub members: u32,
     pub drawn: u32,
@@ -49,7 +49,7 @@ impl Chart {
 
     pub const INVOKES: u32 = 64;
 
-    pub const ITEMS: u32 = 256;
+    pub const DATA: u32 = 256;
 
     pub const PARAMETERS: u32 = 512;
 
@@ -74,7 +74,7 @@ impl Chart {
             regions: Chart::REGIONS,
             entries: Chart::ENTRIES,
             invokes: Chart::INVOKES,
-            items: Chart::ITEMS,
+            datums: Chart::DATA,
             parameters: Chart::PARAMETERS,
             members: Chart::MEMBERS,
             drawn: Chart::DRAWN,

@@ -11,7 +11,7 @@ use Rattle.definition.specs.Text.{trim, trimmed, bytesAt, escapedQuotes, quoted
 use Rattle.definition.specs.Elements.{tag, key, roleOf, isMasked, isName, isNames, elementNames, numberIn, tagOf, codings, wordsTaken}
 use Rattle.definition.specs.Event.{Attribute, Event, kind}
 use Rattle.definition.specs.Rows.{Table, num, lastOf}
-use Rattle.definition.specs.Look.{Look, Item, valueItems, textItems, isGenerated, generatedItems, payload, textCharge, Field, oneIf, codeOf, isEvents, codeByRole, fieldBy, fieldsFrom, itemsOf, valuesLength, eventCharge, keptName, nameRow, isNamed, isInnermost}
+use Rattle.definition.specs.Look.{Look, Load, valueLoads, textLoads, isGenerated, nameLoads, payload, textCharge, Field, oneIf, codeOf, isEvents, codeByRole, fieldBy, fieldsFrom, loadsOf, valuesLength, eventCharge, keptName, nameRow, isNamed, isInnermost}
 use Rattle.definition.specs.Change.{fieldIn, present, fieldCode, has, codeFor}
 use Rattle.definition.specs.Reader.{wordTaken}
 use Rattle.kept.proofs.Base.{le-of, leb-of, eq-of, and-left, and-both, or-right, false-is-true, true-is-false, test}
@@ -19,7 +19,7 @@ use Rattle.kept.proofs.Dispatch.{Coded}
 
 -- ---- codes
 
-pub field-code : (P : ℕ → Type 0) (d g k o : ℕ) (is : List Item) → ((v : List ℕ) → P (codeByRole (roleOf g k) g k v)) → P d → P (fieldCode d (fieldIn (fieldsFrom g o is) k))
+pub field-code : (P : ℕ → Type 0) (d g k o : ℕ) (is : List Load) → ((v : List ℕ) → P (codeByRole (roleOf g k) g k v)) → P d → P (fieldCode d (fieldIn (fieldsFrom g o is) k))
 unfolding fieldsFrom fieldIn fieldCode fieldBy
 field-code P d g k o [] f p = p
 field-code P d g k o (i ∷ is) f p = go (eqb (i .key) k) refl (field-code P d g k (o + length (i .bytes)) is f p)
@@ -107,31 +107,31 @@ quoted-le : (v : List ℕ) → length (quoted v) ≤ length v + length v + 2
 unfolding quoted
 quoted-le v = omega (arith, length-append (escapedQuotes (trimmed v)) (34 ∷ []), escaped-le (trimmed v), trimmed-le v)
 
-payload-append : (is js : List Item) → length (payload (is ++ js)) ≡ length (payload is) + length (payload js)
+payload-append : (is js : List Load) → length (payload (is ++ js)) ≡ length (payload is) + length (payload js)
 unfolding payload
 payload-append [] js = omega arith
 payload-append (i ∷ is) js = omega (arith, length-append (i .bytes) (payload (is ++ js)), length-append (i .bytes) (payload is), payload-append is js)
 
-values-charge : (ats : List Attribute) → length (payload (valueItems ats)) ≡ valuesLength ats
-unfolding payload valueItems valuesLength
+values-charge : (ats : List Attribute) → length (payload (valueLoads ats)) ≡ valuesLength ats
+unfolding payload valueLoads valuesLength
 values-charge [] = refl
-values-charge (a ∷ ats) = omega (arith, length-append (a .value) (payload (valueItems ats)), values-charge ats)
+values-charge (a ∷ ats) = omega (arith, length-append (a .value) (payload (valueLoads ats)), values-charge ats)
 
-text-charge : (g : ℕ) (o : Option (List ℕ)) → length (payload (textItems g o)) ≤ textCharge g o
-unfolding payload textItems textCharge
+text-charge : (g : ℕ) (o : Option (List ℕ)) → length (payload (textLoads g o)) ≤ textCharge g o
+unfolding payload textLoads textCharge
 text-charge g none = omega arith
 text-charge g (some v) = go (eqb g (tag .assign)) refl
   where
-    go : (b : Bool) → eqb g (tag .assign) ≡ b → length (payload (textItems g (some v))) ≤ textCharge g (some v)
-    go true e = rw (e, textItems, textCharge) (omega (arith, length-append (quoted v) [], quoted-le v))
-    go false e = rw (e, textItems, textCharge) (omega (arith, length-append v []))
+    go : (b : Bool) → eqb g (tag .assign) ≡ b → length (payload (textLoads g (some v))) ≤ textCharge g (some v)
+    go true e = rw (e, textLoads, textCharge) (omega (arith, length-append (quoted v) [], quoted-le v))
+    go false e = rw (e, textLoads, textCharge) (omega (arith, length-append v []))
 
-pub charge-covers : (g n : ℕ) (e : Event) → length (payload (itemsOf g n e)) ≤ eventCharge g n e
-unfolding itemsOf eventCharge
+pub charge-covers : (g n : ℕ) (e : Event) → length (payload (loadsOf g n e)) ≤ eventCharge g n e
+unfolding loadsOf eventCharge
 charge-covers g n e =
-    let vs : List Item = valueItems (e .attributes) in
-    let ts : List Item = textItems g (e .text) in
-    let gs : List Item = generatedItems (isGenerated (e .kind) g vs) (suc n) in
+    let vs : List Load = valueLoads (e .attributes) in
+    let ts : List Load = textLoads g (e .text) in
+    let gs : List Load = nameLoads (isGenerated (e .kind) g vs) (suc n) in
     omega (arith, payload-append (vs ++ ts) gs, payload-append vs ts, values-charge (e .attributes), text-charge g (e .text))
 
 -- ---- the open name

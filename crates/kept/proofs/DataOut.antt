@@ -7,7 +7,7 @@ use lib.ListN.{length, getD}
 use lib.Dec.{eqb, leb}
 use native.Mathlib.Omega.{arith}
 use Rattle.definition.specs.Elements.{tag, key}
-use Rattle.definition.specs.Rows.{Row, Table, free, num, columnsOf, Numbers, tableOf, table, state, transition, item, choices, sameList, blank, withCell, currentState, root, listed, valuesOf}
+use Rattle.definition.specs.Rows.{Row, Table, free, num, columnsOf, Numbers, tableOf, table, state, transition, datum, choices, sameList, blank, withCell, currentState, root, listed, valuesOf}
 use Rattle.definition.specs.Shapes.{shapeAt}
 use Rattle.definition.specs.Look.{Look}
 use Rattle.definition.specs.Change.{Put, _≔_, numbers, shape, Change, nothing, editedBy, putAll, putOne, isNumber, filledBy, also, adding, altering, drawn, drawId, nextId, shapeOf, addMember, has}
@@ -32,13 +32,13 @@ use Rattle.kept.proofs.StatesOut.{Ready, done-next, done-nothing, state
 module _ (u : ℕ) (l : Look) (n : Numbers) (look-in : LookIn u l) (b : ℕ) (R : Ready u l n b) where
   -- ---- data
 
-  data-add : l .tag ≡ 9 → (v : ℕ) → shapeOf (l .tag) (shape v) ≡ record { into = 6; texts = shapeAt 9 v .texts } → (leb v 1) ≡ true → Next u l n (nothing n) (adding (shape v) (item .state ≔ currentState n ∷ []) (nothing n))
+  data-add : l .tag ≡ 9 → (v : ℕ) → shapeOf (l .tag) (shape v) ≡ record { into = 6; texts = shapeAt 9 v .texts } → (leb v 1) ≡ true → Next u l n (nothing n) (adding (shape v) (datum .state ≔ currentState n ∷ []) (nothing n))
   unfolding adding columnsOf blank putAll putOne isNumber filledBy withCell fills paired Nums Fits chosen shapeAt
   data-add e zero s v =
-      next-add u l n look-in (shape 0) 0 (item .state ≔ currentState n ∷ []) (nothing n) 6 (shapeAt 9 0 .texts) (R .good) s refl refl (λ U x.
+      next-add u l n look-in (shape 0) 0 (datum .state ≔ currentState n ∷ []) (nothing n) 6 (shapeAt 9 0 .texts) (R .good) s refl refl (λ U x.
       (zero-grow (now l n (nothing n)) U x 1 (currentState n) (state-row u l n look-in b R), (tt, (tt, (tt, (tt, (tt, (tt, (tt, tt)))))))))
   data-add e (suc zero) s v =
-      next-add u l n look-in (shape 1) 0 (item .state ≔ currentState n ∷ []) (nothing n) 6 (shapeAt 9 1 .texts) (R .good) s refl refl (λ U x.
+      next-add u l n look-in (shape 1) 0 (datum .state ≔ currentState n ∷ []) (nothing n) 6 (shapeAt 9 1 .texts) (R .good) s refl refl (λ U x.
       (zero-grow (now l n (nothing n)) U x 1 (currentState n) (state-row u l n look-in b R), (tt, (tt, (tt, (tt, (tt, (tt, (tt, tt)))))))))
   data-add e (suc (suc v)) s k = absurd (omega (arith, Rattle.kept.proofs.Base.le-of (suc (suc v)) 1 k))
 
@@ -61,8 +61,8 @@ module _ (u : ℕ) (l : Look) (n : Numbers) (look-in : LookIn u l) (b : ℕ) (R 
   out-data e =
       let s = data-shape e in
       out-unless u l n b (currentState n) _ (λ z.
-      out-either u l n b (eqb (l .found) (suc (length (tableOf n (table .items))))) _ _
-      (λ q. done-next u l n look-in b R (adding (shape (valueShape l)) (item .state ≔ currentState n ∷ []) (nothing n)) (data-add e (valueShape l) (s .1) (s .0)))
+      out-either u l n b (eqb (l .found) (suc (length (tableOf n (table .datums))))) _ _
+      (λ q. done-next u l n look-in b R (adding (shape (valueShape l)) (datum .state ≔ currentState n ∷ []) (nothing n)) (data-add e (valueShape l) (s .1) (s .0)))
       (λ q. done-next u l n look-in b R (altering (shape (valueShape l)) (l .found) [] (nothing n)) (data-alter e (valueShape l) (s .1) (s .0))))
 
   -- ---- the default initial transition

@@ -9,11 +9,11 @@ use native.Mathlib.Omega.{arith}
 use Rattle.definition.specs.Text.{Span, Piece, pieces, stateWordsAt}
 use Rattle.definition.specs.Elements.{key, Role, name, names, masked, plain, roleOf, namesState}
 use Rattle.definition.specs.Event.{Event, kind}
-use Rattle.definition.specs.Look.{Item, valueItems, textItems, hasItem, isGenerated, generatedItems, payload, wordSpans, shift, wordsByRole, fieldBy, fieldsFrom, ownName, wordNames, namesFrom, namesBrought, itemsOf}
+use Rattle.definition.specs.Look.{Load, valueLoads, textLoads, hasLoad, isGenerated, nameLoads, payload, wordSpans, shift, wordsByRole, fieldBy, fieldsFrom, ownName, wordNames, namesFrom, namesBrought, loadsOf}
 use Rattle.definition.specs.Rules.{isInside}
 use Rattle.definition.proofs.Words.{Located, located-at, pieces-located, drop-past}
 use Rattle.definition.proofs.Parts.{Inside, parts-inside}
-use Rattle.definition.proofs.Items.{id-name}
+use Rattle.definition.proofs.Loads.{id-name}
 use Rattle.kept.proofs.Base.{leb-of, eq-of, and-both, false-is-true, test, All, All-append}
 use Rattle.kept.proofs.RowCells.{CellIn}
 use Rattle.kept.proofs.RowTexts.{FieldIn}
@@ -39,7 +39,7 @@ words-in m plain g o k v h = shifted m o v (wordSpans g k v) h (from-other (word
     from-other [] a = tt
     from-other (s ∷ ss) a = (a .0, from-other ss (a .1))
 
-pub fields-in : (t : List ℕ) (g o : ℕ) (is : List Item) (x : List ℕ) → o ≤ length t → drop o t ≡ payload is ++ x → All (FieldIn (length t)) (fieldsFrom g o is)
+pub fields-in : (t : List ℕ) (g o : ℕ) (is : List Load) (x : List ℕ) → o ≤ length t → drop o t ≡ payload is ++ x → All (FieldIn (length t)) (fieldsFrom g o is)
 unfolding fieldsFrom payload fieldBy isInside
 fields-in t g o [] x k h = tt
 fields-in t g o (i ∷ is) x k h =
@@ -70,7 +70,7 @@ word-located t o v x masked k h = tt
 word-located t o v x plain k h = tt
 
 from-located : (f : Role → ℕ → List ℕ → List Piece) (t : List ℕ) → ((o : ℕ) (v x : List ℕ) (r : Role) → o ≤ length t → drop o t ≡ v ++ x → All (Located t) (f r o v))
-    → (g o : ℕ) (is : List Item) (x : List ℕ) → o ≤ length t → drop o t ≡ payload is ++ x → All (Located t) (namesFrom f g o is)
+    → (g o : ℕ) (is : List Load) (x : List ℕ) → o ≤ length t → drop o t ≡ payload is ++ x → All (Located t) (namesFrom f g o is)
 unfolding namesFrom payload
 from-located f t q g o [] x k h = tt
 from-located f t q g o (i ∷ is) x k h =
@@ -78,59 +78,59 @@ from-located f t q g o (i ∷ is) x k h =
     All-append (Located t) (f (roleOf g (i .key)) o (i .bytes)) (namesFrom f g (o + length (i .bytes)) is) (q o (i .bytes) (payload is ++ x) (roleOf g (i .key)) k h′)
     (from-located f t q g (o + length (i .bytes)) is x (past t o (i .bytes) (payload is ++ x) k h′) (drop-past t o (i .bytes) (payload is ++ x) h′))
 
-pub brought : (t : List ℕ) (g o : ℕ) (is : List Item) (x : List ℕ) → o ≤ length t → drop o t ≡ payload is ++ x → All (Located t) (namesBrought g o is)
+pub brought : (t : List ℕ) (g o : ℕ) (is : List Load) (x : List ℕ) → o ≤ length t → drop o t ≡ payload is ++ x → All (Located t) (namesBrought g o is)
 unfolding namesBrought
 brought t g o is x k h =
     All-append (Located t) (namesFrom ownName g o is) (namesFrom wordNames g o is) (from-located ownName t (own-located t) g o is x k h) (from-located wordNames t (word-located t) g o is x k h)
 
 -- ---- an element that names a state brings its own name
 
-own-first : (g o : ℕ) (is : List Item) → namesState g ≡ true → hasItem (key .id) is ≡ true → 1 ≤ length (namesFrom ownName g o is)
-unfolding namesFrom hasItem
+own-first : (g o : ℕ) (is : List Load) → namesState g ≡ true → hasLoad (key .id) is ≡ true → 1 ≤ length (namesFrom ownName g o is)
+unfolding namesFrom hasLoad
 own-first g o [] n e = false-is-true e
 own-first g o (i ∷ is) n e = go (eqb (i .key) (key .id)) refl (own-first g (o + length (i .bytes)) is n)
   where
     named : (r : Role) → r ≡ name → 1 ≤ length (ownName r o (i .bytes))
     named r z = subst (λ (q : Role). 1 ≤ length (ownName q o (i .bytes))) (sym z) (unfold ownName in omega arith)
 
-    go : (b : Bool) → eqb (i .key) (key .id) ≡ b → (hasItem (key .id) is ≡ true → 1 ≤ length (namesFrom ownName g (o + length (i .bytes)) is)) → 1 ≤ length (namesFrom ownName g o (i ∷ is))
+    go : (b : Bool) → eqb (i .key) (key .id) ≡ b → (hasLoad (key .id) is ≡ true → 1 ≤ length (namesFrom ownName g (o + length (i .bytes)) is)) → 1 ≤ length (namesFrom ownName g o (i ∷ is))
     go true f ih =
         let z : roleOf g (i .key) ≡ name = ap (roleOf g) (eq-of (i .key) (key .id) f) ∙ id-name g n in
         omega (arith, named (roleOf g (i .key)) z, length-append (ownName (roleOf g (i .key)) o (i .bytes)) (namesFrom ownName g (o + length (i .bytes)) is))
     go false f ih =
-        let z : hasItem (key .id) is ≡ true = rw (f, hasItem) at e in
+        let z : hasLoad (key .id) is ≡ true = rw (f, hasLoad) at e in
         omega (arith, ih z, length-append (ownName (roleOf g (i .key)) o (i .bytes)) (namesFrom ownName g (o + length (i .bytes)) is))
 
-has-left : (k : ℕ) (is js : List Item) → hasItem k is ≡ true → hasItem k (is ++ js) ≡ true
-unfolding hasItem
+has-left : (k : ℕ) (is js : List Load) → hasLoad k is ≡ true → hasLoad k (is ++ js) ≡ true
+unfolding hasLoad
 has-left k [] js e = false-is-true e
 has-left k (i ∷ is) js e = go (eqb (i .key) k) refl (has-left k is js)
   where
-    go : (b : Bool) → eqb (i .key) k ≡ b → (hasItem k is ≡ true → hasItem k (is ++ js) ≡ true) → hasItem k (i ∷ is ++ js) ≡ true
-    go true f ih = rw (f, hasItem)
-    go false f ih = rw (f, hasItem) (ih (rw (f, hasItem) at e))
+    go : (b : Bool) → eqb (i .key) k ≡ b → (hasLoad k is ≡ true → hasLoad k (is ++ js) ≡ true) → hasLoad k (i ∷ is ++ js) ≡ true
+    go true f ih = rw (f, hasLoad)
+    go false f ih = rw (f, hasLoad) (ih (rw (f, hasLoad) at e))
 
-has-right : (k : ℕ) (is js : List Item) → hasItem k js ≡ true → hasItem k (is ++ js) ≡ true
-unfolding hasItem
+has-right : (k : ℕ) (is js : List Load) → hasLoad k js ≡ true → hasLoad k (is ++ js) ≡ true
+unfolding hasLoad
 has-right k [] js e = e
 has-right k (i ∷ is) js e = go (eqb (i .key) k) refl (has-right k is js e)
   where
-    go : (b : Bool) → eqb (i .key) k ≡ b → hasItem k (is ++ js) ≡ true → hasItem k (i ∷ is ++ js) ≡ true
-    go true f ih = rw (f, hasItem)
-    go false f ih = rw (f, hasItem) ih
+    go : (b : Bool) → eqb (i .key) k ≡ b → hasLoad k (is ++ js) ≡ true → hasLoad k (i ∷ is ++ js) ≡ true
+    go true f ih = rw (f, hasLoad)
+    go false f ih = rw (f, hasLoad) ih
 
-pub id-there : (g n : ℕ) (e : Event) → namesState g ≡ true → not (eqb (e .kind) (kind .ends)) ≡ true → hasItem (key .id) (itemsOf g n e) ≡ true
-unfolding itemsOf
+pub id-there : (g n : ℕ) (e : Event) → namesState g ≡ true → not (eqb (e .kind) (kind .ends)) ≡ true → hasLoad (key .id) (loadsOf g n e) ≡ true
+unfolding loadsOf
 id-there g n e s k =
-    let vs : List Item = valueItems (e .attributes) in
-    test (hasItem (key .id) vs) (λ h. has-left (key .id) (vs ++ textItems g (e .text)) (generatedItems (isGenerated (e .kind) g vs) (suc n)) (has-left (key .id) vs (textItems g (e .text)) h)) (λ h.
-    has-right (key .id) (vs ++ textItems g (e .text)) (generatedItems (isGenerated (e .kind) g vs) (suc n)) (generated vs h))
+    let vs : List Load = valueLoads (e .attributes) in
+    test (hasLoad (key .id) vs) (λ h. has-left (key .id) (vs ++ textLoads g (e .text)) (nameLoads (isGenerated (e .kind) g vs) (suc n)) (has-left (key .id) vs (textLoads g (e .text)) h)) (λ h.
+    has-right (key .id) (vs ++ textLoads g (e .text)) (nameLoads (isGenerated (e .kind) g vs) (suc n)) (generated vs h))
   where
-    generated : (vs : List Item) → hasItem (key .id) vs ≡ false → hasItem (key .id) (generatedItems (isGenerated (e .kind) g vs) (suc n)) ≡ true
+    generated : (vs : List Load) → hasLoad (key .id) vs ≡ false → hasLoad (key .id) (nameLoads (isGenerated (e .kind) g vs) (suc n)) ≡ true
     generated vs h =
-        let z : isGenerated (e .kind) g vs ≡ true = unfold isGenerated in and-both (not (eqb (e .kind) (kind .ends)) && namesState g) (not (hasItem (key .id) vs)) (and-both (not (eqb (e .kind) (kind .ends))) (namesState g) k s) (ap not h) in
-        unfold generatedItems hasItem in rw z
+        let z : isGenerated (e .kind) g vs ≡ true = unfold isGenerated in and-both (not (eqb (e .kind) (kind .ends)) && namesState g) (not (hasLoad (key .id) vs)) (and-both (not (eqb (e .kind) (kind .ends))) (namesState g) k s) (ap not h) in
+        unfold nameLoads hasLoad in rw z
 
-pub own-brought : (g o : ℕ) (is : List Item) → namesState g ≡ true → hasItem (key .id) is ≡ true → 1 ≤ length (namesBrought g o is)
+pub own-brought : (g o : ℕ) (is : List Load) → namesState g ≡ true → hasLoad (key .id) is ≡ true → 1 ≤ length (namesBrought g o is)
 unfolding namesBrought
 own-brought g o is n e = omega (arith, own-first g o is n e, length-append (namesFrom ownName g o is) (namesFrom wordNames g o is))

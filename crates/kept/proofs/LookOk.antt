@@ -12,7 +12,7 @@ use Rattle.definition.specs.Text.{Piece}
 use Rattle.definition.specs.Elements.{tag, key, roleOf, namesState, tagOf}
 use Rattle.definition.specs.Event.{Event, kind}
 use Rattle.definition.specs.Rows.{Cell, Numbers, tableOf, Store}
-use Rattle.definition.specs.Look.{look, Item, resolve, nameCells, namesBrought, itemsOf, payload, codeByRole, keptName, nameRow, openName}
+use Rattle.definition.specs.Look.{look, Load, resolve, nameCells, namesBrought, loadsOf, payload, codeByRole, keptName, nameRow, openName}
 use Rattle.definition.specs.Change.{entered, openedRow, codeFor}
 use Rattle.definition.specs.States.{ownState}
 use Rattle.definition.specs.Rules.{unknownFits}
@@ -66,8 +66,8 @@ module _ (L : Limits) (s : Store) (e : Event) (K : OkOf L (s .text) (s .numbers)
   abbrev g : ℕ
   g = tagOf (e .name)
 
-  abbrev is : List Item
-  is = itemsOf g (n .names) e
+  abbrev is : List Load
+  is = loadsOf g (n .names) e
 
   abbrev t : List ℕ
   t = s .text ++ payload is

@@ -58,7 +58,7 @@ low-donedata n l = unless (currentState n) _ well
 
 low-data : (n : Numbers) (l : Look) → Low (startData n l)
 unfolding startData
-low-data n l = unless (currentState n) _ (either (eqb (l .found) (suc (length (tableOf n (table .items))))) _ _ well well)
+low-data n l = unless (currentState n) _ (either (eqb (l .found) (suc (length (tableOf n (table .datums))))) _ _ well well)
 
 -- ---- actions
 

@@ -424,7 +424,7 @@ fifteen =
     ++ upTo (table .regions) 512 (tag .state) (opens "onentry")
     ++ upTo (table .entries) 2048 (tag .onentry) (empties "raise" ++ pair "event" "e")
     ++ upTo (table .invokes) 64 (tag .state) (opens "invoke")
-    ++ upTo (table .items) 256 (tag .datamodel) (empties "data" ++ pair "id" "x")
+    ++ upTo (table .datums) 256 (tag .datamodel) (empties "data" ++ pair "id" "x")
     ++ upTo (table .parameters) 512 (tag .invoke) (opens "param" ++ pair "name" "x")
     ++ upTo (table .members) 4096 (tag .onentry) (ends "onentry")
     ++ from (tag .state) 65534 9 9 256 (opens "onentry") 0 0

@@ -12,7 +12,7 @@ use Rattle.definition.specs.Text.{Piece, same}
 use Rattle.definition.specs.Elements.{Role, name, names, roleOf, isMasked, isName, among, namesState, tagOf}
 use Rattle.definition.specs.Event.{Event, kind}
 use Rattle.definition.specs.Rows.{Row, Table, num, blank, Cell, textAt, Numbers, Store, innermost, parentTag, lastOf}
-use Rattle.definition.specs.Look.{Item, Look, look, hasItem, isGenerated, generatedItems, textItems, valueItems, itemsOf, ownName, wordNames, namesFrom, namesBrought, findName, enter, pieceCell, resolve, isNamed, isInnermost}
+use Rattle.definition.specs.Look.{Load, Look, look, hasLoad, isGenerated, nameLoads, textLoads, valueLoads, loadsOf, ownName, wordNames, namesFrom, namesBrought, findName, enter, pieceCell, resolve, isNamed, isInnermost}
 use Rattle.definition.specs.Change.{onTable, stateRow, entered}
 use Rattle.definition.specs.States.{ownState}
 use Rattle.reached.proofs.Tables.{AllRows, and-left}
@@ -42,50 +42,50 @@ own-role : (g k : ℕ) → namesState g ≡ true → k ≡ 1 → roleOf g k ≡ 
 unfolding roleOf isMasked isName among
 own-role g k h e = subst (λ (x : ℕ). roleOf g x ≡ name) (sym e) (rw (h, roleOf) refl)
 
-own-brought : (g o : ℕ) (is : List Item) → namesState g ≡ true → hasItem 1 is ≡ true → Filled (namesFrom ownName g o is)
-unfolding namesFrom hasItem ownName Filled
+own-brought : (g o : ℕ) (is : List Load) → namesState g ≡ true → hasLoad 1 is ≡ true → Filled (namesFrom ownName g o is)
+unfolding namesFrom hasLoad ownName Filled
 own-brought g o [] h e = absurd (false≢true e)
 own-brought g o (i ∷ is) h e = go (eqb (i .key) 1) refl (own-brought g (o + length (i .bytes)) is h)
   where
-    go : (b : Bool) → eqb (i .key) 1 ≡ b → (hasItem 1 is ≡ true → Filled (namesFrom ownName g (o + length (i .bytes)) is))
+    go : (b : Bool) → eqb (i .key) 1 ≡ b → (hasLoad 1 is ≡ true → Filled (namesFrom ownName g (o + length (i .bytes)) is))
         → Filled (ownName (roleOf g (i .key)) o (i .bytes) ++ namesFrom ownName g (o + length (i .bytes)) is)
     go true f ih = filled-left (ownName (roleOf g (i .key)) o (i .bytes)) (namesFrom ownName g (o + length (i .bytes)) is) (subst (λ (r : Role). Filled (ownName r o (i .bytes))) (sym (own-role g (i .key) h (eqb-true (i .key) 1 f))) tt)
-    go false f ih = filled-right (ownName (roleOf g (i .key)) o (i .bytes)) (namesFrom ownName g (o + length (i .bytes)) is) (ih (rw (f, hasItem) at e))
+    go false f ih = filled-right (ownName (roleOf g (i .key)) o (i .bytes)) (namesFrom ownName g (o + length (i .bytes)) is) (ih (rw (f, hasLoad) at e))
 
-has-left : (is js : List Item) → hasItem 1 is ≡ true → hasItem 1 (is ++ js) ≡ true
-unfolding hasItem
+has-left : (is js : List Load) → hasLoad 1 is ≡ true → hasLoad 1 (is ++ js) ≡ true
+unfolding hasLoad
 has-left [] js e = absurd (false≢true e)
 has-left (i ∷ is) js e = go (eqb (i .key) 1) refl (has-left is js)
   where
-    go : (b : Bool) → eqb (i .key) 1 ≡ b → (hasItem 1 is ≡ true → hasItem 1 (is ++ js) ≡ true) → elim b [ true ↦ true | false ↦ hasItem 1 (is ++ js) ] ≡ true
+    go : (b : Bool) → eqb (i .key) 1 ≡ b → (hasLoad 1 is ≡ true → hasLoad 1 (is ++ js) ≡ true) → elim b [ true ↦ true | false ↦ hasLoad 1 (is ++ js) ] ≡ true
     go true f ih = refl
-    go false f ih = ih (rw (f, hasItem) at e)
+    go false f ih = ih (rw (f, hasLoad) at e)
 
-has-right : (is js : List Item) → hasItem 1 js ≡ true → hasItem 1 (is ++ js) ≡ true
-unfolding hasItem
+has-right : (is js : List Load) → hasLoad 1 js ≡ true → hasLoad 1 (is ++ js) ≡ true
+unfolding hasLoad
 has-right [] js e = e
 has-right (i ∷ is) js e = go (eqb (i .key) 1) (has-right is js e)
   where
-    go : (b : Bool) → hasItem 1 (is ++ js) ≡ true → elim b [ true ↦ true | false ↦ hasItem 1 (is ++ js) ] ≡ true
+    go : (b : Bool) → hasLoad 1 (is ++ js) ≡ true → elim b [ true ↦ true | false ↦ hasLoad 1 (is ++ js) ] ≡ true
     go true ih = refl
     go false ih = ih
 
-is-made : (k g : ℕ) (is : List Item) → eqb k 3 ≡ false → namesState g ≡ true → hasItem 1 is ≡ false → isGenerated k g is ≡ true
+is-made : (k g : ℕ) (is : List Load) → eqb k 3 ≡ false → namesState g ≡ true → hasLoad 1 is ≡ false → isGenerated k g is ≡ true
 unfolding isGenerated
 is-made k g is a b c = rw (a, b, c) refl
 
-has-id : (g n : ℕ) (e : Event) → namesState g ≡ true → eqb (e .kind) 3 ≡ false → hasItem 1 (itemsOf g n e) ≡ true
-unfolding itemsOf
-has-id g n e h k = go (hasItem 1 (valueItems (e .attributes))) refl
+has-id : (g n : ℕ) (e : Event) → namesState g ≡ true → eqb (e .kind) 3 ≡ false → hasLoad 1 (loadsOf g n e) ≡ true
+unfolding loadsOf
+has-id g n e h k = go (hasLoad 1 (valueLoads (e .attributes))) refl
   where
-    go : (b : Bool) → hasItem 1 (valueItems (e .attributes)) ≡ b
-        → hasItem 1 (valueItems (e .attributes) ++ textItems g (e .text) ++ generatedItems (isGenerated (e .kind) g (valueItems (e .attributes))) (suc n)) ≡ true
+    go : (b : Bool) → hasLoad 1 (valueLoads (e .attributes)) ≡ b
+        → hasLoad 1 (valueLoads (e .attributes) ++ textLoads g (e .text) ++ nameLoads (isGenerated (e .kind) g (valueLoads (e .attributes))) (suc n)) ≡ true
     go true f =
-        has-left (valueItems (e .attributes) ++ textItems g (e .text)) (generatedItems (isGenerated (e .kind) g (valueItems (e .attributes))) (suc n)) (
-        has-left (valueItems (e .attributes)) (textItems g (e .text)) f)
+        has-left (valueLoads (e .attributes) ++ textLoads g (e .text)) (nameLoads (isGenerated (e .kind) g (valueLoads (e .attributes))) (suc n)) (
+        has-left (valueLoads (e .attributes)) (textLoads g (e .text)) f)
     go false f =
-        has-right (valueItems (e .attributes) ++ textItems g (e .text)) (generatedItems (isGenerated (e .kind) g (valueItems (e .attributes))) (suc n)) (
-        subst (λ (b : Bool). hasItem 1 (generatedItems b (suc n)) ≡ true) (sym (is-made (e .kind) g (valueItems (e .attributes)) k h f)) (unfold generatedItems hasItem in refl))
+        has-right (valueLoads (e .attributes) ++ textLoads g (e .text)) (nameLoads (isGenerated (e .kind) g (valueLoads (e .attributes))) (suc n)) (
+        subst (λ (b : Bool). hasLoad 1 (nameLoads b (suc n)) ≡ true) (sym (is-made (e .kind) g (valueLoads (e .attributes)) k h f)) (unfold nameLoads hasLoad in refl))
 
 -- ---- names resolved
 
@@ -123,8 +123,8 @@ resolve-first t cs (p ∷ ps) h =
 look-first : (s : Store) (e : Event) → namesState (tagOf (e .name)) ≡ true → eqb (e .kind) 3 ≡ false → ¬ (ownState (look s e) ≡ 0) × (ownState (look s e) ≤ length (look s e .known))
 unfolding look ownState
 look-first s e h k =
-    resolve-first _ _ _ (unfold namesBrought in filled-left _ (namesFrom wordNames (tagOf (e .name)) (length (s .text)) (itemsOf (tagOf (e .name)) (s .numbers .names) e)) (
-    own-brought (tagOf (e .name)) (length (s .text)) (itemsOf (tagOf (e .name)) (s .numbers .names) e) h (has-id (tagOf (e .name)) (s .numbers .names) e h k)))
+    resolve-first _ _ _ (unfold namesBrought in filled-left _ (namesFrom wordNames (tagOf (e .name)) (length (s .text)) (loadsOf (tagOf (e .name)) (s .numbers .names) e)) (
+    own-brought (tagOf (e .name)) (length (s .text)) (loadsOf (tagOf (e .name)) (s .numbers .names) e) h (has-id (tagOf (e .name)) (s .numbers .names) e h k)))
 
 -- ---- names entered
 

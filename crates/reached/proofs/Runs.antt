@@ -33,7 +33,7 @@ empty-counted L = simp leb·zero
 
 empty-fits : (L : Limits) → allWithin (tableLimits L) (empty .numbers .tables) ≡ true
 unfolding empty noTables tableLimits chartLimits openLimits allWithin
-empty-fits L = empty-within (L .states ∷ L .transitions ∷ L .regions ∷ L .entries ∷ L .invokes ∷ L .items ∷ L .parameters ∷ L .members ∷ L .opened ∷ L .opened ∷ (L .opened + L .opened) ∷ []) 11
+empty-fits L = empty-within (L .states ∷ L .transitions ∷ L .regions ∷ L .entries ∷ L .invokes ∷ L .datums ∷ L .parameters ∷ L .members ∷ L .opened ∷ L .opened ∷ (L .opened + L .opened) ∷ []) 11
 
 pub empty-keeps : (L : Limits) → keepsRules L empty ≡ true
 unfolding keepsRules empty noTables tablesKeep namesDistinct numbersFit openNamesFit openRegionsFit isRowOrZero schema
@@ -50,7 +50,7 @@ zero-at-most (suc k) (m ∷ ms) = rw (leb·zero m, allAtMost) (zero-at-most k ms
 
 start-at-most : (L : Limits) → allAtMost (counts start) (tableLimits L) && leb (start .used) (L .charge) ≡ true
 unfolding counts start tableLimits chartLimits openLimits allAtMost
-start-at-most L = both (allAtMost (counts start) (tableLimits L)) _ (zero-at-most 11 (L .states ∷ L .transitions ∷ L .regions ∷ L .entries ∷ L .invokes ∷ L .items ∷ L .parameters ∷ L .members ∷ L .opened ∷ L .opened ∷ (L .opened + L .opened) ∷ [])) (leb·zero (L .charge))
+start-at-most L = both (allAtMost (counts start) (tableLimits L)) _ (zero-at-most 11 (L .states ∷ L .transitions ∷ L .regions ∷ L .entries ∷ L .invokes ∷ L .datums ∷ L .parameters ∷ L .members ∷ L .opened ∷ L .opened ∷ (L .opened + L .opened) ∷ [])) (leb·zero (L .charge))
 
 none-taken : (k : ℕ) (ts : List Table) → k ≤ length ts → taken (replicate k 0) ts ≡ replicate k []
 unfolding taken

@@ -10,7 +10,7 @@ use native.Mathlib.Omega.{arith}
 use Rattle.definition.specs.Text.{allAllowed, quoted, str, startsGenerated, generatedName}
 use Rattle.definition.specs.Elements.{tag, key, Role, name, names, masked, plain, roleOf, isMasked, isName, isNames, namesState, tagOf, keyOf}
 use Rattle.definition.specs.Event.{Attribute, Event}
-use Rattle.definition.specs.Look.{Item, valueItems, textItems, hasItem, isGenerated, generatedItems, itemsOf}
+use Rattle.definition.specs.Look.{Load, valueLoads, textLoads, hasLoad, isGenerated, nameLoads, loadsOf}
 use Rattle.definition.specs.Renaming.{Moved}
 use Rattle.definition.proofs.Words.{Total, length-rename}
 
@@ -62,76 +62,76 @@ module _ (ρ : List ℕ → List ℕ) (R : Total ρ) where
     pub text : f .text ≡ e .text
     pub allowed : TextAllowed (e .text)
 
-  -- ---- the payload's items
+  -- ---- the payload's loads
 
-  pub record ItemRel (g : ℕ) (i j : Item) : Type 0 where
+  pub record LoadRel (g : ℕ) (i j : Load) : Type 0 where
     pub key : j .key ≡ i .key
     pub bytes : Moved ρ (roleOf g (i .key)) (i .bytes) (j .bytes)
 
-  pub data ItemsRel (g : ℕ) : List Item → List Item → Type 0 where
-    stop : ItemsRel g [] []
-    more : {i j : Item} {is js : List Item} → ItemRel g i j → ItemsRel g is js → ItemsRel g (i ∷ is) (j ∷ js)
+  pub data LoadsRel (g : ℕ) : List Load → List Load → Type 0 where
+    stop : LoadsRel g [] []
+    more : {i j : Load} {is js : List Load} → LoadRel g i j → LoadsRel g is js → LoadsRel g (i ∷ is) (j ∷ js)
 
-  items-append : (g : ℕ) {is js ks ls : List Item} → ItemsRel g is js → ItemsRel g ks ls → ItemsRel g (is ++ ks) (js ++ ls)
-  items-append g ItemsRel.stop k = k
-  items-append g (ItemsRel.more h m) k = ItemsRel.more h (items-append g m k)
+  loads-append : (g : ℕ) {is js ks ls : List Load} → LoadsRel g is js → LoadsRel g ks ls → LoadsRel g (is ++ ks) (js ++ ls)
+  loads-append g LoadsRel.stop k = k
+  loads-append g (LoadsRel.more h m) k = LoadsRel.more h (loads-append g m k)
 
-  values-ρ : (g : ℕ) {as₁ bs : List Attribute} → AttributesRel g as₁ bs → ItemsRel g (valueItems as₁) (valueItems bs)
-  unfolding valueItems
-  values-ρ g AttributesRel.stop = ItemsRel.stop
-  values-ρ g (AttributesRel.more h m) = ItemsRel.more (record { key = ap keyOf (h .key); bytes = h .value }) (values-ρ g m)
+  values-ρ : (g : ℕ) {as₁ bs : List Attribute} → AttributesRel g as₁ bs → LoadsRel g (valueLoads as₁) (valueLoads bs)
+  unfolding valueLoads
+  values-ρ g AttributesRel.stop = LoadsRel.stop
+  values-ρ g (AttributesRel.more h m) = LoadsRel.more (record { key = ap keyOf (h .key); bytes = h .value }) (values-ρ g m)
 
-  plain-item : (g k : ℕ) (v : List ℕ) → roleOf g k ≡ plain → ItemRel g (record { key = k; bytes = v }) (record { key = k; bytes = v })
-  plain-item g k v h = record { key = refl; bytes = subst (λ (q : Role). Moved ρ q v v) (sym h) refl }
+  plain-load : (g k : ℕ) (v : List ℕ) → roleOf g k ≡ plain → LoadRel g (record { key = k; bytes = v }) (record { key = k; bytes = v })
+  plain-load g k v h = record { key = refl; bytes = subst (λ (q : Role). Moved ρ q v v) (sym h) refl }
 
-  text-ρ : (g h : ℕ) (x : Option (List ℕ)) → ItemsRel g (textItems h x) (textItems h x)
-  unfolding textItems
-  text-ρ g h none = ItemsRel.stop
+  text-ρ : (g h : ℕ) (x : Option (List ℕ)) → LoadsRel g (textLoads h x) (textLoads h x)
+  unfolding textLoads
+  text-ρ g h none = LoadsRel.stop
   text-ρ g h (some v) = go (eqb h (tag .assign)) refl
     where
-      go : (c : Bool) → eqb h (tag .assign) ≡ c → ItemsRel g (textItems h (some v)) (textItems h (some v))
-      go true q = rw (q, textItems) (ItemsRel.more (plain-item g (key .quoted) (quoted v) (quoted-plain g)) ItemsRel.stop)
-      go false q = rw (q, textItems) (ItemsRel.more (plain-item g (key .text) v (text-plain g)) ItemsRel.stop)
+      go : (c : Bool) → eqb h (tag .assign) ≡ c → LoadsRel g (textLoads h (some v)) (textLoads h (some v))
+      go true q = rw (q, textLoads) (LoadsRel.more (plain-load g (key .quoted) (quoted v) (quoted-plain g)) LoadsRel.stop)
+      go false q = rw (q, textLoads) (LoadsRel.more (plain-load g (key .text) v (text-plain g)) LoadsRel.stop)
 
-  has-ρ : (g k : ℕ) {is js : List Item} → ItemsRel g is js → hasItem k js ≡ hasItem k is
-  unfolding hasItem
-  has-ρ g k ItemsRel.stop = refl
-  has-ρ g k (ItemsRel.more {i = i} {j = j} {is = is} {js = js} h m) = go (eqb (i .key) k) refl (has-ρ g k m)
+  has-ρ : (g k : ℕ) {is js : List Load} → LoadsRel g is js → hasLoad k js ≡ hasLoad k is
+  unfolding hasLoad
+  has-ρ g k LoadsRel.stop = refl
+  has-ρ g k (LoadsRel.more {i = i} {j = j} {is = is} {js = js} h m) = go (eqb (i .key) k) refl (has-ρ g k m)
     where
-      go : (c : Bool) → eqb (i .key) k ≡ c → hasItem k js ≡ hasItem k is → hasItem k (j ∷ js) ≡ hasItem k (i ∷ is)
-      go true e f = rw (h .key, e, hasItem)
-      go false e f = rw (h .key, e, hasItem) f
+      go : (c : Bool) → eqb (i .key) k ≡ c → hasLoad k js ≡ hasLoad k is → hasLoad k (j ∷ js) ≡ hasLoad k (i ∷ is)
+      go true e f = rw (h .key, e, hasLoad)
+      go false e f = rw (h .key, e, hasLoad) f
 
-  pub generated-ρ : (x g : ℕ) {as₁ bs : List Attribute} → AttributesRel g as₁ bs → isGenerated x g (valueItems bs) ≡ isGenerated x g (valueItems as₁)
+  pub generated-ρ : (x g : ℕ) {as₁ bs : List Attribute} → AttributesRel g as₁ bs → isGenerated x g (valueLoads bs) ≡ isGenerated x g (valueLoads as₁)
   unfolding isGenerated
   generated-ρ x g m = rw (has-ρ g (key .id) (values-ρ g m))
 
-  generated-item : (g n : ℕ) (c : Bool) → (c ≡ true → namesState g ≡ true) → ItemsRel g (generatedItems c n) (generatedItems c n)
-  unfolding generatedItems
-  generated-item g n true h =
-      ItemsRel.more (record { key = refl; bytes = subst (λ (q : Role). Moved ρ q (generatedName n) (generatedName n)) (sym (id-name g (h refl))) (sym (R .keeps (generatedName n) (generated-starts n))) })
-      ItemsRel.stop
-  generated-item g n false h = ItemsRel.stop
+  generated-load : (g n : ℕ) (c : Bool) → (c ≡ true → namesState g ≡ true) → LoadsRel g (nameLoads c n) (nameLoads c n)
+  unfolding nameLoads
+  generated-load g n true h =
+      LoadsRel.more (record { key = refl; bytes = subst (λ (q : Role). Moved ρ q (generatedName n) (generatedName n)) (sym (id-name g (h refl))) (sym (R .keeps (generatedName n) (generated-starts n))) })
+      LoadsRel.stop
+  generated-load g n false h = LoadsRel.stop
 
-  generated-names : (x g : ℕ) (is : List Item) → isGenerated x g is ≡ true → namesState g ≡ true
+  generated-names : (x g : ℕ) (is : List Load) → isGenerated x g is ≡ true → namesState g ≡ true
   unfolding isGenerated
   generated-names x g is e = go (namesState g) refl
     where
       go : (c : Bool) → namesState g ≡ c → namesState g ≡ true
       go true q = q
-      go false q = absurd (no (not (eqb x 3)) (not (hasItem 1 is)) (rw q at e))
+      go false q = absurd (no (not (eqb x 3)) (not (hasLoad 1 is)) (rw q at e))
         where
           no : (p r : Bool) → (p && false && r) ≡ true → ⊥
           no true r h = let z : false ≡ true = h in let y : _≡_ {A = ℕ} 0 1 = cc in omega arith
           no false r h = let z : false ≡ true = h in let y : _≡_ {A = ℕ} 0 1 = cc in omega arith
 
-  -- THE ITEMS OF AN EVENT AND OF ITS PARTNER
-  pub items-ρ : (e f : Event) → EventRel e f → (n : ℕ) → ItemsRel (tagOf (e .name)) (itemsOf (tagOf (e .name)) n e) (itemsOf (tagOf (f .name)) n f)
-  unfolding itemsOf
-  items-ρ e f h n =
+  -- THE DATA OF AN EVENT AND OF ITS PARTNER
+  pub loads-ρ : (e f : Event) → EventRel e f → (n : ℕ) → LoadsRel (tagOf (e .name)) (loadsOf (tagOf (e .name)) n e) (loadsOf (tagOf (f .name)) n f)
+  unfolding loadsOf
+  loads-ρ e f h n =
       let g : ℕ = tagOf (e .name) in
-      let as₁ : List Item = valueItems (e .attributes) in
+      let as₁ : List Load = valueLoads (e .attributes) in
       rw (h .name, h .kind, h .text, generated-ρ (e .kind) g (h .attributes))
-      (items-append g
-      (items-append g (values-ρ g (h .attributes)) (text-ρ g g (e .text)))
-      (generated-item g (suc n) (isGenerated (e .kind) g as₁) (generated-names (e .kind) g as₁)))
+      (loads-append g
+      (loads-append g (values-ρ g (h .attributes)) (text-ρ g g (e .text)))
+      (generated-load g (suc n) (isGenerated (e .kind) g as₁) (generated-names (e .kind) g as₁)))
