@@ -96,6 +96,32 @@ codes =
     ∷ spoils (table .opened) 2 (opened .tag) 28
     ∷ []
 
+-- Columns that hold nothing yet are 0, the first and the last of each table; so is the number of a member that is a word.
+unfoldable pub spares : List Case
+unfolding alteredBy good
+spares =
+    spoils (table .chart) 1 9 1
+    ∷ spoils (table .chart) 1 23 1
+    ∷ spoils (table .states) 2 14 1
+    ∷ spoils (table .states) 1 23 1
+    ∷ spoils (table .regions) 5 1 1
+    ∷ spoils (table .regions) 1 7 1
+    ∷ spoils (table .entries) 2 44 1
+    ∷ spoils (table .entries) 4 47 1
+    ∷ spoils (table .invokes) 1 20 1
+    ∷ spoils (table .invokes) 1 23 1
+    ∷ spoils (table .datums) 1 7 1
+    ∷ spoils (table .members) 9 5 1
+    ∷ spoils (table .members) 1 7 1
+    ∷ spoils (table .members) 7 (member .value) 1
+    ∷ spoils (table .members) 8 (member .value) 2
+    ∷ spoils (table .members) 9 (member .value) 1
+    ∷ spoils (table .opened) 1 4 1
+    ∷ spoils (table .opened) 3 7 1
+    ∷ spoils (table .openRegions) 1 2 1
+    ∷ spoils (table .openRegions) 2 7 1
+    ∷ []
+
 -- "Every transition's source and targets are existing states; every other number that a row holds for a row is 0 or names one that exists." State 3 lies
 -- beyond the rows in use; 2 is a region's number and 1 a transition's.
 unfoldable pub numbers : List Case

@@ -6,7 +6,7 @@ use lib.ListN.{length, getD, set, take, drop, replicate}
 use lib.Dec.{eqb, leb}
 use Rattle.definition.specs.declared.Limits.{Limits}
 use Rattle.definition.specs.Text.{same}
-use Rattle.definition.specs.Rows.{Row, Table, Class, table, blank, schema, Numbers, tableOf, Store}
+use Rattle.definition.specs.Rows.{Row, Table, Class, table, shown, blank, schema, Numbers, tableOf, Store}
 use Rattle.definition.specs.Change.{Put, alterRow, onTable}
 use Rattle.definition.specs.Rules.{
   tableLimits,
@@ -345,5 +345,5 @@ right c =
     let x : Lent = record { tables = m .tables; text = m .text } in
     let p : Position = positionFrom (m .position) in
     let a : Answer = call L x p (c .call) in
-    eqb (a .number) (c .answer) && breaksOnly L x p (c .answer) (c .breaks) && same (a .row) (take 48 (c .row ++ replicate 48 0)) && leaves m (c .call) a
+    eqb (a .number) (c .answer) && breaksOnly L x p (c .answer) (c .breaks) && same (a .row) (take (shown .width) (c .row ++ replicate (shown .width) 0)) && leaves m (c .call) a
     && holdsAll (storeOf (a .lent) (a .position)) (c .holds)

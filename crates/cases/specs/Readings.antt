@@ -2,13 +2,13 @@
 use Prim.Native.Nat.{ℕ}
 use Prim.Native.String.{String}
 use mathlib.Core.Bool.{Bool}
-use mathlib.Core.List.{List, [], _∷_, map}
+use mathlib.Core.List.{List, [], _∷_, _++_, map}
 use lib.ListN.{getD, replicate}
 use Rattle.definition.specs.Text.{str, same}
 use Rattle.definition.specs.Elements.{tag}
-use Rattle.definition.specs.Rows.{Row, Table, entry, invoke, withCell, blank}
+use Rattle.definition.specs.Rows.{Row, Table, table, chart, blank}
 use Rattle.definition.specs.Reader.{Call, event, reading, Answer, run}
-use Rattle.cases.specs.Made.{Made, limitsOf, positionFrom, alteredBy, Case}
+use Rattle.cases.specs.Made.{Made, limitsOf, positionFrom, cell, alteredBy, Case}
 use Rattle.cases.specs.Base.{good, chartRow, states, transitions, regions, entries, invokes, datums, parameters, members}
 use Rattle.cases.specs.Internal.{inside}
 
@@ -23,7 +23,7 @@ abbrev place : Table → ℕ → Row
 place t i = getD t i []
 
 unfoldable pub readings : List Case
-unfolding alteredBy good str withCell
+unfolding alteredBy good str
 readings =
     reads 0 1 chartRow
     ∷ reads 1 2 (place states 1)
@@ -33,16 +33,17 @@ readings =
     ∷ reads 4 1 (place entries 0)
     ∷ reads 4 4 (place entries 3)
     -- A send and an invoke show their state's name: state 2's lies at 2, state 1's at 1.
-    ∷ reads 4 2 (withCell (entry .stateName) (record { at = 2; len = 1 }) (place entries 1))
-    ∷ reads 5 1 (withCell (invoke .stateName) (record { at = 1; len = 1 }) (place invokes 0))
+    ∷ reads 4 2 (place entries 1 ++ 2 ∷ 1 ∷ [])
+    ∷ reads 5 1 (place invokes 0 ++ replicate 24 0 ++ 1 ∷ 1 ∷ [])
     ∷ reads 6 1 (place datums 0)
     ∷ reads 7 2 (place parameters 1)
     ∷ reads 7 3 (place parameters 2)
     ∷ reads 7 4 (place parameters 3)
     ∷ reads 8 1 (place members 0)
     ∷ reads 8 9 (place members 8)
-    -- A parameter that has left.
+    -- A parameter that has left; the chart's row before any scxml.
     ∷ absentRow 7 1
+    ∷ record { made = alteredBy (cell (table .chart) 1 (chart .root) 0 ∷ []) good; call = reading 0 1; breaks = []; answer = 16; row = []; holds = [] }
     -- Number 0, the next number, and junk beyond the rows.
     ∷ absentRow 0 0
     ∷ absentRow 0 2
@@ -127,9 +128,9 @@ runs =
     ∷ record {
       made = zeros;
       calls =
-          reading 0 1 ∷ reading 1 1 ∷ feeds "event=open\nname=scxml\n" ∷ reading 1 1 ∷ feeds "event=open\nname=final\n" ∷ feeds "event=open\nname=donedata\n" ∷ feedsParam
+          reading 0 1 ∷ reading 1 1 ∷ feeds "event=open\nname=scxml\n" ∷ reading 0 1 ∷ reading 1 1 ∷ feeds "event=open\nname=final\n" ∷ feeds "event=open\nname=donedata\n" ∷ feedsParam
           ∷ reading 7 1 ∷ feeds "event=end\nname=donedata\n" ∷ feeds "event=open\nname=donedata\n" ∷ reading 7 1 ∷ reading 7 2 ∷ feedsParam ∷ reading 7 1 ∷ reading 7 2 ∷ [];
-      answers = 0 ∷ 16 ∷ 0 ∷ 0 ∷ 0 ∷ 0 ∷ 0 ∷ 0 ∷ 0 ∷ 0 ∷ 16 ∷ 16 ∷ 0 ∷ 16 ∷ 0 ∷ [];
+      answers = 16 ∷ 16 ∷ 0 ∷ 0 ∷ 0 ∷ 0 ∷ 0 ∷ 0 ∷ 0 ∷ 0 ∷ 0 ∷ 16 ∷ 16 ∷ 0 ∷ 16 ∷ 0 ∷ [];
     }
     -- A refusal leaves all as it was: the next event is answered as if it had not been.
     ∷ record {

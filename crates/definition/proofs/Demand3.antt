@@ -10,10 +10,10 @@ use native.Mathlib.Omega.{arith}
 use Rattle.definition.specs.declared.Limits.{Limits}
 use Rattle.definition.specs.Text.{allAllowed}
 use Rattle.definition.specs.Elements.{Role, names}
-use Rattle.definition.specs.Rows.{Row, Table, table, blank, Cell, noCell, cellAt, textFrom, textAt, Numbers, Store}
+use Rattle.definition.specs.Rows.{Row, Table, table, shown, blank, Cell, noCell, cellAt, textFrom, textAt, Numbers, Store}
 use Rattle.definition.specs.Rules.{tableLimits, keepsRules}
-use Rattle.definition.specs.Reader.{Reply, eventReply, noRow, rowWidth, exists, rowRead, Lent, Position, counts, taken, storeOf, rowsIn, positionOf, over, overAll, lentAfter, allLong, longEnough, allAtMost, inOrder, Call, event, reading, Answer, refused, answerOf, answerTo, call, run, start}
-use Rattle.definition.specs.Renaming.{Renaming, Moved, zeroTables, zeros, CallRel, CallsRel, TextsRel, kindAsked, AnswerRel, AnswersRel, Demand3}
+use Rattle.definition.specs.Reader.{Reply, eventReply, noRow, exists, rowRead, Lent, Position, counts, taken, storeOf, rowsIn, positionOf, over, overAll, lentAfter, allLong, longEnough, allAtMost, inOrder, Call, event, reading, Answer, refused, answerOf, answerTo, call, run, start}
+use Rattle.definition.specs.Renaming.{Renaming, Moved, zeroTables, zeros, roleAt, shownRole, CallRel, CallsRel, TextsRel, kindAsked, AnswerRel, AnswersRel, Demand3}
 use Rattle.definition.proofs.Base.{All, All-append, elim-cond}
 use Rattle.definition.proofs.Words.{Total}
 use Rattle.definition.proofs.Names.{Fits, textFrom-append, Held, held-none, held-grow}
@@ -121,20 +121,20 @@ module _ (ρ : List ℕ → List ℕ) (N : Renaming ρ) where
 
   module _ (x y : Lent) (p : Position) (h : LentRel x y p) where
     texts-of : (k : ℕ) (rs : Table) → All (RowOk σ R (take (p .used) (x .text)) (take (p .used) (y .text)) (h .used) k) rs
-        → (i : ℕ) → TextsRel ρ (x .text) (y .text) k (getD rs i [])
+        → (i : ℕ) → TextsRel ρ (x .text) (y .text) (roleAt k) (getD rs i [])
     unfolding cellAt noCell
     texts-of k [] a i c q e = held-moved x y p h q noCell (held-none σ R (take (p .used) (x .text)) (take (p .used) (y .text)) q)
     texts-of k (r ∷ rs) a zero c q e = held-moved x y p h q (cellAt r c) (a .0 c q e .1)
     texts-of k (r ∷ rs) a (suc i) c q e = texts-of k rs (a .1) i c q e
 
-    no-texts : (k : ℕ) → TextsRel ρ (x .text) (y .text) k noRow
+    no-texts : (k : ℕ) → TextsRel ρ (x .text) (y .text) (shownRole k) noRow
     unfolding noRow
     no-texts k c q e =
-        held-moved x y p h q (cellAt (replicate rowWidth 0) c) (zeros-held σ R (take (p .used) (x .text)) (take (p .used) (y .text)) (h .used) rowWidth k c q)
+        held-moved x y p h q (cellAt (replicate (shown .width) 0) c) (zeros-held σ R (take (p .used) (x .text)) (take (p .used) (y .text)) (h .used) (shown .width) k c q)
 
   -- An answer: what is lent after it is related, and so is the row.
   answer-ρ : (c : Call) (a b : Answer) → b .number ≡ a .number → b .position ≡ a .position → LentRel (a .lent) (b .lent) (a .position)
-      → b .row ≡ a .row → TextsRel ρ (a .lent .text) (b .lent .text) (kindAsked ρ c) (a .row) → AnswerRel ρ c a b
+      → b .row ≡ a .row → TextsRel ρ (a .lent .text) (b .lent .text) (shownRole (kindAsked ρ c)) (a .row) → AnswerRel ρ c a b
   answer-ρ c a b e f h g k =
       record {
         number = e;

@@ -10,11 +10,11 @@ use borrow.Author.Tests.{eqb-true, eq-eqb}
 use native.Mathlib.Omega.{arith}
 use Rattle.definition.specs.Text.{bytesAt}
 use Rattle.definition.specs.Elements.{key, Role, plain, roleOf}
-use Rattle.definition.specs.Rows.{Row, Table, Class, free, own, docId, above, mark, len, code, row, existing, text, by, columnsOf, num, blank, Cell, noCell, cellAt, withCell, textFrom, textAt}
+use Rattle.definition.specs.Rows.{Row, Table, Class, free, textRole, columnsOf, num, blank, Cell, noCell, cellAt, withCell, textFrom, textAt}
 use Rattle.definition.specs.Shapes.{Source, absent, trimmed, content, quoted, value, filled, given, word, Filling, Shape, shapeAt, shapesIn, Shaped, shapesByElement, noShape, sourceFits, fillingFits, textsFit, shapesFit, allFit, sameRole}
 use Rattle.definition.specs.Look.{Field, Look}
 use Rattle.definition.specs.Change.{Put, Which, numbers, shape, Edit, add, alter, fieldIn, fieldCell, ifFilled, ifGiven, trimmedCell, fieldWords, cellOf, filledBy, isNumber, putOne, putAll, shapeOf, alterRow, onTable, edited, editedBy}
-use Rattle.definition.specs.Renaming.{textRole, roleAt}
+use Rattle.definition.specs.Renaming.{roleAt}
 use Rattle.definition.proofs.Base.{and-left, and-right, true-is-false, some-inj, role-eq, All, All-append, All-getD, getD-set}
 use Rattle.definition.proofs.SchemaFits.{sources-fit}
 use Rattle.definition.proofs.Words.{Total}
@@ -50,17 +50,11 @@ shape-fits g (shape i) = shapes-fit g (shapesIn shapesByElement g) (element-fits
 -- A filling's column is a text's, and its source has that text's role.
 filling-role : (g : ℕ) (c : Class) (s : Source) → fillingFits g c s ≡ true → (q : Role) × (textRole c ≡ some q) × (sourceFits g q s ≡ true)
 unfolding fillingFits textRole
-filling-role g (text r) s e = (r, refl, e)
-filling-role g len s e = true-is-false (sym e)
-filling-role g free s e = true-is-false (sym e)
-filling-role g own s e = true-is-false (sym e)
-filling-role g docId s e = true-is-false (sym e)
-filling-role g above s e = true-is-false (sym e)
-filling-role g mark s e = true-is-false (sym e)
-filling-role g (code a b) s e = true-is-false (sym e)
-filling-role g (row t) s e = true-is-false (sym e)
-filling-role g (existing t) s e = true-is-false (sym e)
-filling-role g (by c k) s e = true-is-false (sym e)
+filling-role g c s e = go (textRole c) refl
+  where
+    go : (o : Option Role) → textRole c ≡ o → (q : Role) × (textRole c ≡ some q) × (sourceFits g q s ≡ true)
+    go (some q) f = (q, f, rw (f, fillingFits) at e)
+    go none f = true-is-false (sym (rw (f, fillingFits) at e))
 
 role-at : (k c : ℕ) (q : Role) → textRole (getD (columnsOf k) c free) ≡ some q → roleAt k c ≡ some q
 unfolding roleAt

@@ -12,9 +12,9 @@ use native.Mathlib.Omega.{arith}
 use Rattle.definition.specs.Text.{same}
 use Rattle.definition.specs.Elements.{tag, key, Role, name, names, plain, roleOf, isMasked, isName, isNames, namesState, among, tagOf, keyOf}
 use Rattle.definition.specs.Event.{Attribute, Event}
-use Rattle.definition.specs.Rows.{Row, Table, table, state, datum, schema, columnsOf, num, Cell, cellAt, textAt, Numbers, tableOf, currentState}
+use Rattle.definition.specs.Rows.{Row, Table, table, state, datum, schema, textRole, columnsOf, num, Cell, cellAt, textAt, Numbers, tableOf, currentState}
 use Rattle.definition.specs.Look.{Load, valueLoads, isGenerated, payload, fieldsFrom, nameCells, resolve, namesBrought, idIn, findDatum, loadsOf, valuesLength, eventCharge, look, oneIf, isInnermost, keptName, nameRow}
-use Rattle.definition.specs.Renaming.{Moved, textRole, roleAt}
+use Rattle.definition.specs.Renaming.{Moved, roleAt}
 use Rattle.definition.proofs.Base.{All, elim-cond}
 use Rattle.definition.proofs.Words.{Total, renamePiece}
 use Rattle.definition.proofs.Names.{Held, held-grow, resolve-ρ}

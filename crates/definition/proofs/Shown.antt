@@ -1,24 +1,24 @@
 -- A row as it is read holds related texts too, a send's and an invoke's state name among them.
 use Prim.Native.Nat.{ℕ, zero, suc, _+_, _<_}
-use mathlib.Core.Path.{_≡_, refl, sym, ap, _∙_, subst}
+use mathlib.Core.Path.{_≡_, refl, sym, ap, _∙_, subst, subst₂}
 use mathlib.Core.Bool.{Bool, true, false, _&&_}
 use mathlib.Core.Option.{some}
 use mathlib.Core.List.{List, [], _∷_, _++_}
-use lib.ListN.{length, getD, take, replicate}
+use lib.ListN.{length, getD, set, take, replicate, length-append, length-take, length-replicate}
 use lib.Dec.{eqb, ltb, ltb→lt}
 use borrow.Author.Tests.{eqb-true, eq-eqb}
 use native.Mathlib.Omega.{arith}
 use Rattle.definition.specs.Elements.{Role, name}
-use Rattle.definition.specs.Rows.{Row, Table, table, state, entry, invoke, schema, Class, free, columnsOf, num, rowOf, noCell, cellAt, withCell, Numbers, tableOf}
-use Rattle.definition.specs.Reader.{rowWidth, widened, stateNameOf, withName, placeOf, rowRead}
-use Rattle.definition.specs.Renaming.{textRole, roleAt}
-use Rattle.definition.proofs.Base.{and-left, and-right, All, All-getD, T-of}
+use Rattle.definition.specs.Rows.{Row, Table, table, shown, state, schema, Class, free, columnsOf, num, rowOf, Cell, noCell, cellAt, withCell, textRole, Numbers, tableOf}
+use Rattle.definition.specs.Reader.{widened, stateNameOf, stateKept, withName, placeOf, rowRead}
+use Rattle.definition.specs.Renaming.{roleAt, shownRole}
+use Rattle.definition.proofs.Base.{and-left, and-right, some-inj, All, All-getD, T-of}
 use Rattle.definition.proofs.Words.{Total}
 use Rattle.definition.proofs.Names.{Held, held-none}
-use Rattle.definition.proofs.Tables.{sort, text-at}
-use Rattle.definition.proofs.Edits.{RowOk, TablesOk, with-cell, zero-cell}
+use Rattle.definition.proofs.Tables.{sort, text-at, cell-other, cell-here}
+use Rattle.definition.proofs.Edits.{RowOk, TablesOk, zero-cell}
 
--- ---- texts stand before the width of a row that is read
+-- ---- texts stand before the state's name of a row that is read
 
 unfoldable textsBefore : ℕ → ℕ → List Class → Bool
 unfolding sort
@@ -30,7 +30,7 @@ unfolding textsBefore
 allBefore w [] = true
 allBefore w (cs ∷ css) = textsBefore w 0 cs && allBefore w css
 
-schema-before : allBefore rowWidth schema ≡ true
+schema-before : allBefore (shown .stateName) schema ≡ true
 unfolding allBefore schema
 schema-before = refl
 
@@ -46,15 +46,15 @@ before-at w i (x ∷ cs) e (suc c) h = go (eqb (sort x) 1) refl (λ f. before-at
     go true q ih = omega (arith, ih (and-right (ltb (suc i) w) (textsBefore w (suc i) cs) (rw (q, textsBefore) at e)))
     go false q ih = omega (arith, ih (rw (q, textsBefore) at e))
 
-before-in : (css : List (List Class)) → allBefore rowWidth css ≡ true → (k : ℕ) → textsBefore rowWidth 0 (getD css k []) ≡ true
+before-in : (css : List (List Class)) → allBefore (shown .stateName) css ≡ true → (k : ℕ) → textsBefore (shown .stateName) 0 (getD css k []) ≡ true
 unfolding allBefore textsBefore
 before-in [] e k = refl
-before-in (cs ∷ css) e zero = and-left (textsBefore rowWidth 0 cs) (allBefore rowWidth css) e
-before-in (cs ∷ css) e (suc k) = before-in css (and-right (textsBefore rowWidth 0 cs) (allBefore rowWidth css) e) k
+before-in (cs ∷ css) e zero = and-left (textsBefore (shown .stateName) 0 cs) (allBefore (shown .stateName) css) e
+before-in (cs ∷ css) e (suc k) = before-in css (and-right (textsBefore (shown .stateName) 0 cs) (allBefore (shown .stateName) css) e) k
 
-text-before : (k c : ℕ) (q : Role) → roleAt k c ≡ some q → suc c < rowWidth
+text-before : (k c : ℕ) (q : Role) → roleAt k c ≡ some q → suc c < shown .stateName
 unfolding columnsOf
-text-before k c q e = omega (arith, before-at rowWidth 0 (columnsOf k) (before-in schema schema-before k) c (text-at k c q e))
+text-before k c q e = omega (arith, before-at (shown .stateName) 0 (columnsOf k) (before-in schema schema-before k) c (text-at k c q e))
 
 -- ---- a widened row
 
@@ -69,24 +69,33 @@ num-append [] z c h = absurd (omega arith)
 num-append (x ∷ r) z zero h = refl
 num-append (x ∷ r) z (suc c) h = num-append r z c (omega arith)
 
-wide-num : (r : Row) (c : ℕ) → c < rowWidth → c < length r → num (widened r) c ≡ num r c
+wide-num : (r : Row) (c : ℕ) → c < shown .width → c < length r → num (widened r) c ≡ num r c
 unfolding widened
-wide-num r c h k = num-take rowWidth (r ++ replicate rowWidth 0) c h ∙ num-append r (replicate rowWidth 0) c k
+wide-num r c h k = num-take (shown .width) (r ++ replicate (shown .width) 0) c h ∙ num-append r (replicate (shown .width) 0) c k
 
-wide-cell : (r : Row) (c : ℕ) → suc c < rowWidth → suc c < length r → cellAt (widened r) c ≡ cellAt r c
+wide-cell : (r : Row) (c : ℕ) → suc c < shown .width → suc c < length r → cellAt (widened r) c ≡ cellAt r c
 unfolding cellAt
 wide-cell r c h k =
     let a : num (widened r) c ≡ num r c = wide-num r c (omega arith) (omega arith) in
     let b : num (widened r) (suc c) ≡ num r (suc c) = wide-num r (suc c) h k in
     λ i. record { at = a i; len = b i }
 
-entry-role : roleAt (table .entries) (entry .stateName) ≡ some name
-unfolding roleAt textRole columnsOf schema
-entry-role = refl
+wide-length : (r : Row) → length (widened r) ≡ shown .width
+unfolding widened
+wide-length r =
+    let z : length (r ++ replicate (shown .width) 0) ≡ length r + shown .width =
+    length-append r (replicate (shown .width) 0) ∙ ap (λ (k : ℕ). length r + k) (length-replicate {A = ℕ} (shown .width) 0) in
+    omega (arith, length-take (shown .width) (r ++ replicate (shown .width) 0))
 
-invoke-role : roleAt (table .invokes) (invoke .stateName) ≡ some name
-unfolding roleAt textRole columnsOf schema
-invoke-role = refl
+-- The table's columns keep their cells, and the state's name stands behind them.
+shown-before : (r : Row) (x : Cell) (c : ℕ) → suc c < shown .stateName → cellAt (withCell (shown .stateName) x (widened r)) c ≡ cellAt (widened r) c
+unfolding withCell
+shown-before r x c h =
+    cell-other (set (widened r) (shown .stateName) (x .at)) (suc (shown .stateName)) c (x .len) (λ e. omega arith) (λ e. omega arith)
+    ∙ cell-other (widened r) (shown .stateName) c (x .at) (λ e. omega arith) (λ e. omega arith)
+
+shown-name : (r : Row) (x : Cell) → cellAt (withCell (shown .stateName) x (widened r)) (shown .stateName) ≡ x
+shown-name r x = cell-here (widened r) (shown .stateName) x (omega (arith, wide-length r))
 
 state-role : roleAt (table .states) (state .name) ≡ some name
 unfolding roleAt textRole columnsOf schema
@@ -109,40 +118,35 @@ module _ (ρ : List ℕ → List ℕ) (R : Total ρ) (t u : List ℕ) (size : le
     state-name zero = held-none ρ R t u name
     state-name (suc i) = name-cells (tableOf n (table .states)) (ok (table .states)) i
 
-    with-name : (k : ℕ) (r : Row) → RowOk ρ R t u size k r → RowOk ρ R t u size k (withName n k r)
-    unfolding withName
-    with-name k r h = go (eqb k (table .entries)) (eqb k (table .invokes)) refl refl
-      where
-        named : (j column : ℕ) → roleAt j column ≡ some name → k ≡ j → (s : ℕ) → RowOk ρ R t u size k (withCell column (stateNameOf n s) r)
-        named j column e q s =
-            with-cell ρ R t u size k column name (ap (λ (x : ℕ). roleAt x column) q ∙ e) (stateNameOf n s) (state-name s) r h
-
-        go : (b d : Bool) → eqb k (table .entries) ≡ b → eqb k (table .invokes) ≡ d → RowOk ρ R t u size k (withName n k r)
-        go true d e f = rw (e, withName) (named (table .entries) (entry .stateName) entry-role (eqb-true k (table .entries) e) (num r (entry .state)))
-        go false true e f = rw (e, withName, f, withName) (named (table .invokes) (invoke .stateName) invoke-role (eqb-true k (table .invokes) f) (num r (invoke .state)))
-        go false false e f = rw (e, withName, f, withName) h
-
-    -- Of no row nothing is read.
-    no-name : (k : ℕ) → withName n k [] ≡ []
-    unfolding withName withCell
-    no-name k = go (eqb k (table .entries)) (eqb k (table .invokes)) refl refl
-      where
-        go : (b d : Bool) → eqb k (table .entries) ≡ b → eqb k (table .invokes) ≡ d → withName n k [] ≡ []
-        go true d e f = rw (e, withName)
-        go false true e f = rw (e, withName, f, withName)
-        go false false e f = rw (e, withName, f, withName)
-
     abbrev ShownOk : ℕ → Row → Type 0
-    ShownOk k r = (c : ℕ) (q : Role) → roleAt k c ≡ some q → Held ρ R t u q (cellAt (widened (withName n k r)) c)
+    ShownOk k r = (c : ℕ) (q : Role) → shownRole k c ≡ some q → Held ρ R t u q (cellAt (withName n k r) c)
+
+    -- Whatever stands in the table's columns, the name is a state's.
+    shown-by : (k : ℕ) (r : Row) → ((c : ℕ) (q : Role) → roleAt k c ≡ some q → Held ρ R t u q (cellAt (widened r) c)) → ShownOk k r
+    unfolding withName shownRole
+    shown-by k r h c q e = go (eqb c (shown .stateName)) refl
+      where
+        x : Cell
+        x = stateNameOf n (stateKept k r)
+
+        go : (b : Bool) → eqb c (shown .stateName) ≡ b → Held ρ R t u q (cellAt (withName n k r) c)
+        go true f =
+            let p : some name ≡ some q = rw (f, shownRole) at e in
+            subst₂ (λ (i : ℕ) (p : Role). Held ρ R t u p (cellAt (withName n k r) i)) (sym (eqb-true c (shown .stateName) f)) (some-inj name name q p)
+            (subst (Held ρ R t u name) (sym (shown-name r x)) (state-name (stateKept k r)))
+        go false f =
+            let p : roleAt k c ≡ some q = rw (f, shownRole) at e in
+            subst (Held ρ R t u q) (sym (shown-before r x c (text-before k c q p))) (h c q p)
 
     shown-row : (k : ℕ) (r : Row) → RowOk ρ R t u size k r → ShownOk k r
-    shown-row k r h c q e =
-        let x = with-name k r h c q e in
-        subst (Held ρ R t u q) (sym (wide-cell (withName n k r) c (text-before k c q e) (x .0))) (x .1)
+    shown-row k r h =
+        shown-by k r (λ c q e.
+        subst (Held ρ R t u q) (sym (wide-cell r c (omega (arith, text-before k c q e)) (h c q e .0))) (h c q e .1))
 
+    -- Of no row nothing is read.
     shown-none : (k : ℕ) → ShownOk k []
     unfolding widened
-    shown-none k c q e = subst (λ (r : Row). Held ρ R t u q (cellAt (take rowWidth (r ++ replicate rowWidth 0)) c)) (sym (no-name k)) (zeros-held rowWidth k c q)
+    shown-none k = shown-by k [] (λ c q e. zeros-held (shown .width) k c q)
 
     shown-all : (k : ℕ) (rs : Table) → All (RowOk ρ R t u size k) rs → All (ShownOk k) rs
     shown-all k [] a = tt
@@ -154,6 +158,6 @@ module _ (ρ : List ℕ → List ℕ) (R : Total ρ) (t u : List ℕ) (size : le
     shown-place k (suc i) = All-getD (ShownOk k) [] (shown-none k) (tableOf n k) (shown-all k (tableOf n k) (ok k)) i
 
     -- A ROW THAT IS READ
-    pub shown-held : (k i c : ℕ) (q : Role) → roleAt k c ≡ some q → Held ρ R t u q (cellAt (rowRead n k i) c)
+    pub shown-held : (k i c : ℕ) (q : Role) → shownRole k c ≡ some q → Held ρ R t u q (cellAt (rowRead n k i) c)
     unfolding rowRead
     shown-held k i c q e = shown-place k (placeOf n k i) c q e

@@ -10,12 +10,12 @@ use borrow.Author.Tests.{eqb-true}
 use native.Mathlib.Omega.{arith}
 use Rattle.definition.specs.declared.Limits.{Limits}
 use Rattle.definition.specs.Elements.{name}
-use Rattle.definition.specs.Rows.{Row, Table, table, state, schema, Class, free, columnsOf, blank, Cell, Numbers}
+use Rattle.definition.specs.Rows.{Row, Table, table, state, schema, Class, free, textRole, columnsOf, blank, Cell, Numbers}
 use Rattle.definition.specs.Look.{Look}
 use Rattle.definition.specs.Change.{Change, Outcome, done, refuse, onTable, stateRow, entered, made, withTables, openedRow, pushed, withoutLast, popped, editedBy}
 use Rattle.definition.specs.Rules.{withinLimits}
 use Rattle.definition.specs.Reader.{Verdict, accept, reject, startOf, endOf, onDone, started, finished, handled, limited, questions, firstNo, decided}
-use Rattle.definition.specs.Renaming.{textRole, roleAt}
+use Rattle.definition.specs.Renaming.{roleAt}
 use Rattle.definition.proofs.Base.{and-left, and-right, All, All-append, getD-set}
 use Rattle.definition.proofs.Words.{Total}
 use Rattle.definition.proofs.Names.{Held}

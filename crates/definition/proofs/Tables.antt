@@ -9,9 +9,9 @@ use lib.Dec.{eqb}
 use borrow.Author.Tests.{eqb-true, eq-eqb}
 use native.Mathlib.Omega.{arith}
 use Rattle.definition.specs.Elements.{Role}
-use Rattle.definition.specs.Rows.{Row, schema, Class, free, own, docId, above, mark, len, code, row, existing, text, by, columnsOf, num, Cell, cellAt, withCell}
+use Rattle.definition.specs.Rows.{Row, schema, Class, free, own, docId, above, mark, len, code, row, existing, text, by, textRole, columnsOf, num, Cell, cellAt, withCell}
 use Rattle.definition.specs.Change.{isNumber}
-use Rattle.definition.specs.Renaming.{textRole, roleAt}
+use Rattle.definition.specs.Renaming.{roleAt}
 use Rattle.definition.proofs.Base.{and-left, and-right, true-is-false, none-is-some}
 
 -- ---- columns

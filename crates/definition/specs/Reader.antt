@@ -9,7 +9,7 @@ use Rattle.definition.specs.declared.Limits.{Limits}
 use Rattle.definition.specs.Elements.{tag, key, leftOutKeys, requirements, requiredIn, Apart, exclusions, codings, wordsTaken}
 use Rattle.definition.specs.Nesting.{parentAllowed}
 use Rattle.definition.specs.Event.{Event, readEvent, inForm, keysDiffer, kind, eventsOf}
-use Rattle.definition.specs.Rows.{Row, Table, table, entryKind, ownerKind, list, state, entry, invoke, parameter, num, rowOf, Cell, noCell, cellAt, withCell, Numbers, tableOf, Store, parentTag, root}
+use Rattle.definition.specs.Rows.{Row, Table, table, shown, entryKind, ownerKind, list, state, entry, invoke, parameter, num, rowOf, Cell, noCell, cellAt, withCell, Numbers, tableOf, Store, parentTag, root}
 use Rattle.definition.specs.Look.{Look, look, textAfter}
 use Rattle.definition.specs.Change.{Change, Outcome, done, refuse, nothing, entered, made, pushed, popped, has, lengthOf, codeFor, wordsOf}
 use Rattle.definition.specs.States.{startScxml, startState, startParallel, startFinal, startHistory, startInitial, startDonedata, startData, endState, endScxml}
@@ -216,29 +216,30 @@ eventReply L s raw = replyTo L s (readEvent raw)
 
 -- ---- a reading
 
--- A row as it is read has as many numbers as the widest.
-abbrev pub rowWidth : ℕ
-rowWidth = 48
-
 unfoldable pub noRow : Row
-noRow = replicate rowWidth 0
+noRow = replicate (shown .width) 0
 
 unfoldable pub widened : Row → Row
-widened r = take rowWidth (r ++ replicate rowWidth 0)
+widened r = take (shown .width) (r ++ replicate (shown .width) 0)
 
 unfoldable pub stateNameOf : Numbers → ℕ → Cell
 unfolding cellAt rowOf noCell
 stateNameOf n zero = noCell
 stateNameOf n (suc i) = cellAt (rowOf (tableOf n (table .states)) (suc i)) (state .name)
 
--- "A state's name that another row keeps is a state name too": send and invoke keep the state's number, and its name is given on reading.
-unfoldable pub withName : Numbers → ℕ → Row → Row
-unfolding withCell stateNameOf
-withName n t r =
+-- The state that a row keeps: a send's or an invoke's.
+unfoldable pub stateKept : ℕ → Row → ℕ
+stateKept t r =
     elim (eqb t (table .entries)) [
-      | true ↦ withCell (entry .stateName) (stateNameOf n (num r (entry .state))) r
-      | false ↦ elim (eqb t (table .invokes)) [ true ↦ withCell (invoke .stateName) (stateNameOf n (num r (invoke .state))) r | false ↦ r ]
+      | true ↦ num r (entry .state)
+      | false ↦ elim (eqb t (table .invokes)) [ true ↦ num r (invoke .state) | false ↦ 0 ]
     ]
+
+-- "A state's name that another row keeps is a state name too and adds nothing to the text charge": tables keep the state's number, and the row as it is read
+-- has the name.
+unfoldable pub withName : Numbers → ℕ → Row → Row
+unfolding withCell stateNameOf stateKept widened
+withName n t r = withCell (shown .stateName) (stateNameOf n (stateKept t r)) (widened r)
 
 -- A parameter of a donedata that another replaced: its number is below the mark.
 unfoldable pub hasLeft : Numbers → ℕ → Row → Bool
@@ -257,15 +258,20 @@ placeOf n t (suc i) =
       | false ↦ elim (ltb i (length (tableOf n t))) [ true ↦ suc i | false ↦ 0 ]
     ]
 
+-- "The empty chart has no row": the chart's is there from the first scxml on.
+unfoldable pub isEmpty : Numbers → Bool
+unfolding root
+isEmpty n = eqb (root n) 0
+
 unfoldable pub exists : Numbers → ℕ → ℕ → Bool
-unfolding placeOf hasLeft rowOf
+unfolding placeOf hasLeft rowOf isEmpty
 exists n t i =
-    leb t (table .members) && leb 1 (placeOf n t i) && not (eqb t (table .parameters) && hasLeft n i (rowOf (tableOf n t) i))
+    leb t (table .members) && leb 1 (placeOf n t i) && not (eqb t (table .chart) && isEmpty n) && not (eqb t (table .parameters) && hasLeft n i (rowOf (tableOf n t) i))
 
 -- "For reading a row by id: does the row exist? 16"
 unfoldable pub rowRead : Numbers → ℕ → ℕ → Row
-unfolding widened withName rowOf placeOf
-rowRead n t i = widened (withName n t (rowOf (tableOf n t) (placeOf n t i)))
+unfolding withName rowOf placeOf
+rowRead n t i = withName n t (rowOf (tableOf n t) (placeOf n t i))
 
 -- ---- lent slices and the reading position
 

@@ -6,13 +6,13 @@ use mathlib.Core.Bool.{Bool, true, false}
 use mathlib.Core.Option.{Option, none, some}
 use mathlib.Core.List.{List, [], _∷_, _++_, map}
 use lib.ListN.{length, getD, replicate}
-use lib.Dec.{T}
+use lib.Dec.{T, eqb}
 use Rattle.definition.specs.declared.Limits.{Limits}
 use Rattle.definition.specs.Text.{str, allAllowed, isSeparator, isWord, startsGenerated}
 use Rattle.definition.specs.Elements.{Role, name, names, masked, plain, roleOf, tagOf, keyOf}
 use Rattle.definition.specs.Event as E
 use Rattle.definition.specs.Event.{Line, lineOf, linesFrom, tailFrom, isNil, legible}
-use Rattle.definition.specs.Rows.{Row, Table, Class, free, own, docId, above, mark, len, code, row, existing, text, by, columnsOf, blank, cellAt, textAt}
+use Rattle.definition.specs.Rows.{Row, Table, shown, free, textRole, columnsOf, blank, cellAt, textAt}
 use Rattle.definition.specs.Reader.{Call, event, reading, Answer, Lent, counts, run, start}
 
 -- ---- renamings
@@ -85,22 +85,14 @@ isFree (some k) E.junk = true
 
 -- ---- what a text column's role is
 
-unfoldable pub textRole : Class → Option Role
-textRole (text q) = some q
-textRole free = none
-textRole own = none
-textRole docId = none
-textRole above = none
-textRole mark = none
-textRole len = none
-textRole (code a b) = none
-textRole (row t) = none
-textRole (existing t) = none
-textRole (by c k) = none
-
 unfoldable pub roleAt : ℕ → ℕ → Option Role
 unfolding textRole columnsOf
 roleAt t c = textRole (getD (columnsOf t) c free)
+
+-- Of a row as it is read: "a state's name that another row keeps is a state name too".
+unfoldable pub shownRole : ℕ → ℕ → Option Role
+unfolding roleAt
+shownRole t c = elim (eqb c (shown .stateName)) [ true ↦ some name | false ↦ roleAt t c ]
 
 -- ---- slices of zeros, of any lengths
 
@@ -149,9 +141,9 @@ module _ (ρ : List ℕ → List ℕ) where
 
   -- ---- an answer and its partner
 
-  -- Every text column of a row of the table t: equal bytes, a renamed name, or each list's own text of equal length.
-  abbrev pub TextsRel : List ℕ → List ℕ → ℕ → Row → Type 0
-  TextsRel x y t r = (c : ℕ) (q : Role) → roleAt t c ≡ some q → Moved q (textAt x (cellAt r c)) (textAt y (cellAt r c))
+  -- Every text column of a row, by its role: equal bytes, a renamed name, or each list's own text of equal length.
+  abbrev pub TextsRel : List ℕ → List ℕ → (ℕ → Option Role) → Row → Type 0
+  TextsRel x y roles r = (c : ℕ) (q : Role) → roles c ≡ some q → Moved q (textAt x (cellAt r c)) (textAt y (cellAt r c))
 
   abbrev pub kindAsked : Call → ℕ
   kindAsked (event raw) = 0
@@ -163,9 +155,9 @@ module _ (ρ : List ℕ → List ℕ) where
     pub position : b .position ≡ a .position
     pub tables : b .lent .tables ≡ a .lent .tables
     pub size : length (b .lent .text) ≡ length (a .lent .text)
-    pub texts : (t i : ℕ) → i < getD (counts (a .position)) t 0 → TextsRel (a .lent .text) (b .lent .text) t (getD (getD (a .lent .tables) t []) i [])
+    pub texts : (t i : ℕ) → i < getD (counts (a .position)) t 0 → TextsRel (a .lent .text) (b .lent .text) (roleAt t) (getD (getD (a .lent .tables) t []) i [])
     pub row : b .row ≡ a .row
-    pub shown : TextsRel (a .lent .text) (b .lent .text) (kindAsked c) (a .row)
+    pub shown : TextsRel (a .lent .text) (b .lent .text) (shownRole (kindAsked c)) (a .row)
 
   pub data AnswersRel : List Call → List Answer → List Answer → Type 0 where
     stop : AnswersRel [] [] []

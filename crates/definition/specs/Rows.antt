@@ -1,6 +1,7 @@
 -- Document 01, module 3: Rows. THE SCHEMA of tables: their columns and each column's class. Question 2, reading a row and demand 3 follow from it.
 use Prim.Native.Nat.{ℕ, zero, suc}
 use mathlib.Core.Bool.{Bool, true, false, _&&_}
+use mathlib.Core.Option.{Option, none, some}
 use mathlib.Core.List.{List, [], _∷_, _++_}
 use lib.ListN.{length, getD, set, replicate}
 use lib.Dec.{eqb}
@@ -192,7 +193,7 @@ region =
       number = 0;
     }
 
--- An entry's row: one column a key. `stateName` is filled on reading.
+-- An entry's row: one column a key.
 abbrev pub entry : record {
   region : ℕ;
   kind : ℕ;
@@ -219,7 +220,6 @@ abbrev pub entry : record {
   item : ℕ;
   index : ℕ;
   text : ℕ;
-  stateName : ℕ;
 }
 entry =
     record {
@@ -248,10 +248,9 @@ entry =
       item = 38;
       index = 40;
       text = 42;
-      stateName = 44;
     }
 
--- An invoke's row. `stateName` is filled on reading.
+-- An invoke's row.
 abbrev pub invoke : record {
   state : ℕ;
   autoforward : ℕ;
@@ -265,7 +264,6 @@ abbrev pub invoke : record {
   idlocation : ℕ;
   text : ℕ;
   expr : ℕ;
-  stateName : ℕ;
 }
 invoke =
     record {
@@ -281,7 +279,6 @@ invoke =
       idlocation = 14;
       text = 16;
       expr = 18;
-      stateName = 20;
     }
 
 -- A row of the data: its value is in one of two columns.
@@ -357,6 +354,17 @@ openRegion =
       tag = 1;
     }
 
+-- A row as it is read: the row of its table, and behind the widest of them the name of the state that a send or an invoke keeps.
+abbrev pub shown : record {
+  stateName : ℕ;
+  width : ℕ;
+}
+shown =
+    record {
+      stateName = 48;
+      width = 50;
+    }
+
 -- ---- classes
 
 -- What a column holds.
@@ -376,6 +384,24 @@ pub data Class : Type 0 where
   row existing : ℕ → Class
   text : Role → Class
   by : ℕ → ℕ → Class
+
+-- A column that holds nothing yet is 0, so that rows with the same texts and numbers are the same rows.
+abbrev pub spare : Class
+spare = code 0 0
+
+-- What a text column's text is in demand 3; other columns have none.
+unfoldable pub textRole : Class → Option Role
+textRole (text q) = some q
+textRole free = none
+textRole own = none
+textRole docId = none
+textRole above = none
+textRole mark = none
+textRole len = none
+textRole (code a b) = none
+textRole (row t) = none
+textRole (existing t) = none
+textRole (by c k) = none
 
 abbrev choice : record {
   content : ℕ;
@@ -403,7 +429,7 @@ choices =
     ∷ (free ∷ replicate 5 (row (table .states)) ++ row (table .transitions) ∷ row (table .transitions) ∷ row (table .entries) ∷ row (table .invokes) ∷ [])
     ∷ (
     free ∷ existing (table .states) ∷ existing (table .states) ∷ existing (table .regions) ∷ existing (table .regions) ∷ existing (table .transitions)
-    ∷ existing (table .states) ∷ free ∷ free ∷ free ∷ [])
+    ∷ existing (table .states) ∷ spare ∷ spare ∷ spare ∷ [])
     ∷ []
 
 unfoldable pub chartColumns : List Class
@@ -414,7 +440,7 @@ chartColumns =
     ∷ text plain ∷ len  -- name
     ∷ text plain ∷ len  -- datamodel
     ∷ text plain ∷ len  -- version
-    ∷ replicate 15 free
+    ∷ replicate 15 spare
 
 unfoldable pub stateColumns : List Class
 stateColumns =
@@ -429,7 +455,7 @@ stateColumns =
     ∷ code 0 1  -- hasContent
     ∷ text plain ∷ len  -- text
     ∷ text masked ∷ len  -- expr
-    ∷ replicate 10 free
+    ∷ replicate 10 spare
 
 unfoldable pub transitionColumns : List Class
 transitionColumns =
@@ -445,7 +471,7 @@ transitionColumns =
 unfoldable pub regionColumns : List Class
 regionColumns =
     own  -- number
-    ∷ replicate 7 free
+    ∷ replicate 7 spare
 
 unfoldable pub entryColumns : List Class
 entryColumns =
@@ -474,8 +500,7 @@ entryColumns =
     ∷ text plain ∷ len  -- item
     ∷ text plain ∷ len  -- index
     ∷ text plain ∷ len  -- text
-    ∷ text name ∷ len  -- stateName
-    ∷ replicate 2 free
+    ∷ replicate 4 spare
 
 unfoldable pub invokeColumns : List Class
 invokeColumns =
@@ -491,8 +516,7 @@ invokeColumns =
     ∷ text plain ∷ len  -- idlocation
     ∷ text plain ∷ len  -- text
     ∷ text masked ∷ len  -- expr
-    ∷ text name ∷ len  -- stateName
-    ∷ replicate 2 free
+    ∷ replicate 4 spare
 
 unfoldable pub datumColumns : List Class
 datumColumns =
@@ -500,7 +524,7 @@ datumColumns =
     ∷ text plain ∷ len  -- id
     ∷ text masked ∷ len  -- expr
     ∷ text plain ∷ len  -- text
-    ∷ replicate 1 free
+    ∷ replicate 1 spare
 
 unfoldable pub parameterColumns : List Class
 parameterColumns =
@@ -517,7 +541,7 @@ memberColumns =
     ∷ by (member .list) (choice .memberOwner)  -- owner
     ∷ by (member .list) (choice .memberValue)  -- value
     ∷ text plain ∷ len  -- word
-    ∷ replicate 3 free
+    ∷ replicate 3 spare
 
 unfoldable pub openedColumns : List Class
 openedColumns =
@@ -525,13 +549,13 @@ openedColumns =
     ∷ row (table .states)  -- state
     ∷ row (table .transitions)  -- transition
     ∷ free  -- length
-    ∷ replicate 4 free
+    ∷ replicate 4 spare
 
 unfoldable pub openRegionColumns : List Class
 openRegionColumns =
     row (table .regions)  -- region
     ∷ free  -- tag
-    ∷ replicate 6 free
+    ∷ replicate 6 spare
 
 unfoldable pub schema : List (List Class)
 unfolding chartColumns stateColumns transitionColumns regionColumns entryColumns invokeColumns datumColumns parameterColumns memberColumns openedColumns openRegionColumns

@@ -2,11 +2,12 @@
 -- shapes and never a text; one computed test shows that every source fits its column's class.
 use Prim.Native.Nat.{ℕ}
 use mathlib.Core.Bool.{Bool, true, false, _&&_}
+use mathlib.Core.Option.{none, some}
 use mathlib.Core.List.{List, [], _∷_}
 use lib.ListN.{getD}
 use lib.Dec.{eqb}
 use Rattle.definition.specs.Elements.{tag, key, Role, name, names, masked, plain, roleOf}
-use Rattle.definition.specs.Rows.{table, chart, state, transition, entry, invoke, datum, parameter, member, Class, free, own, docId, above, mark, len, code, row, existing, text, by, columnsOf}
+use Rattle.definition.specs.Rows.{table, chart, state, transition, entry, invoke, datum, parameter, member, Class, free, textRole, columnsOf}
 
 -- Where a text column's text comes from.
 --   absent    none
@@ -142,19 +143,10 @@ sourceFits g r (filled k) = sameRole r (roleOf g k)
 sourceFits g r (given k) = sameRole r (roleOf g k)
 sourceFits g r (word k) = sameRole r plain && sameRole r (roleOf g k)
 
+-- A filling is for a text column, and its source has that column's role.
 unfoldable pub fillingFits : ℕ → Class → Source → Bool
-unfolding sourceFits
-fillingFits g (text r) s = sourceFits g r s
-fillingFits g free s = false
-fillingFits g own s = false
-fillingFits g docId s = false
-fillingFits g above s = false
-fillingFits g mark s = false
-fillingFits g len s = false
-fillingFits g (code a b) s = false
-fillingFits g (row t) s = false
-fillingFits g (existing t) s = false
-fillingFits g (by c k) s = false
+unfolding textRole sourceFits
+fillingFits g c s = elim (textRole c) [ some r ↦ sourceFits g r s | none ↦ false ]
 
 unfoldable pub textsFit : ℕ → List Class → List Filling → Bool
 unfolding fillingFits

@@ -174,11 +174,8 @@ generatedName n = str "__id" ++ decimal n
 
 -- It begins with `__id`.
 unfoldable pub startsGenerated : List ℕ → Bool
-startsGenerated [] = false
-startsGenerated (a ∷ []) = false
-startsGenerated (a ∷ b ∷ []) = false
-startsGenerated (a ∷ b ∷ c ∷ []) = false
-startsGenerated (a ∷ b ∷ c ∷ d ∷ r) = eqb a 95 && eqb b 95 && eqb c 105 && eqb d 100
+unfolding same str
+startsGenerated w = same (take 4 w) (str "__id")
 
 -- ---- an assign's text
 

@@ -25,49 +25,49 @@ use Rattle.kept.proofs.Draws.{good-fresh}
 use Rattle.kept.proofs.Members.{Out, out, out-either, out-unless}
 use Rattle.kept.proofs.Next.{Next, has-next, next-trans, next-add, next-alter, next-words, out-closing}
 use Rattle.kept.proofs.StatesOut.{Ready, done-next, done-nothing, state-row}
-use Rattle.kept.proofs.Entries.{entry-nums, invoke-nums, has-last}
+use Rattle.kept.proofs.Entries.{entry-nums, invoke-nums, allFitAlone, has-last}
 
 module _ (u : ℕ) (l : Look) (n : Numbers) (look-in : LookIn u l) where
   -- ---- an entry of the current region without content
 
   pub next-raise : (c : Change) → Good u l n c → l .tag ≡ 20 → Next u l n c (newEntry 0 6 [] c)
-  unfolding newEntry adding shapeOf shapeAt columnsOf blank putAll putOne isNumber filledBy withCell fills paired Fits choices
+  unfolding newEntry adding shapeOf shapeAt columnsOf blank putAll putOne isNumber filledBy withCell fills paired Fits choices allFitAlone
   next-raise c G e =
       next-add u l n look-in (shape 0) 0 (entry .region ≔ c .current ∷ entry .kind ≔ 6 ∷ []) c 4 (shapeAt 20 0 .texts) G (ap (λ (g : ℕ). shapeAt g 0) e) refl refl (λ U x.
       entry-nums (at u U (c .ids) (c .docs)) (c .current) 6 0 0 0 0 _ refl (zero-grow (now l n c) U x 3 (c .current) (G .current)) refl (λ z. absurd (z refl)) (λ z. absurd (z refl)) (λ z. absurd (z refl)) refl)
 
   pub next-cancel : (c : Change) → Good u l n c → l .tag ≡ 21 → Next u l n c (newEntry 0 7 [] c)
-  unfolding newEntry adding shapeOf shapeAt columnsOf blank putAll putOne isNumber filledBy withCell fills paired Fits choices
+  unfolding newEntry adding shapeOf shapeAt columnsOf blank putAll putOne isNumber filledBy withCell fills paired Fits choices allFitAlone
   next-cancel c G e =
       next-add u l n look-in (shape 0) 0 (entry .region ≔ c .current ∷ entry .kind ≔ 7 ∷ []) c 4 (shapeAt 21 0 .texts) G (ap (λ (g : ℕ). shapeAt g 0) e) refl refl (λ U x.
       entry-nums (at u U (c .ids) (c .docs)) (c .current) 7 0 0 0 0 _ refl (zero-grow (now l n c) U x 3 (c .current) (G .current)) refl (λ z. absurd (z refl)) (λ z. absurd (z refl)) (λ z. absurd (z refl)) refl)
 
   pub next-log : (c : Change) → Good u l n c → l .tag ≡ 22 → Next u l n c (newEntry 0 3 [] c)
-  unfolding newEntry adding shapeOf shapeAt columnsOf blank putAll putOne isNumber filledBy withCell fills paired Fits choices
+  unfolding newEntry adding shapeOf shapeAt columnsOf blank putAll putOne isNumber filledBy withCell fills paired Fits choices allFitAlone
   next-log c G e =
       next-add u l n look-in (shape 0) 0 (entry .region ≔ c .current ∷ entry .kind ≔ 3 ∷ []) c 4 (shapeAt 22 0 .texts) G (ap (λ (g : ℕ). shapeAt g 0) e) refl refl (λ U x.
       entry-nums (at u U (c .ids) (c .docs)) (c .current) 3 0 0 0 0 _ refl (zero-grow (now l n c) U x 3 (c .current) (G .current)) refl (λ z. absurd (z refl)) (λ z. absurd (z refl)) (λ z. absurd (z refl)) refl)
 
   pub next-assign : (c : Change) → Good u l n c → l .tag ≡ 23 → Next u l n c (newEntry 0 8 [] c)
-  unfolding newEntry adding shapeOf shapeAt columnsOf blank putAll putOne isNumber filledBy withCell fills paired Fits choices
+  unfolding newEntry adding shapeOf shapeAt columnsOf blank putAll putOne isNumber filledBy withCell fills paired Fits choices allFitAlone
   next-assign c G e =
       next-add u l n look-in (shape 0) 0 (entry .region ≔ c .current ∷ entry .kind ≔ 8 ∷ []) c 4 (shapeAt 23 0 .texts) G (ap (λ (g : ℕ). shapeAt g 0) e) refl refl (λ U x.
       entry-nums (at u U (c .ids) (c .docs)) (c .current) 8 0 0 0 0 _ refl (zero-grow (now l n c) U x 3 (c .current) (G .current)) refl (λ z. absurd (z refl)) (λ z. absurd (z refl)) (λ z. absurd (z refl)) refl)
 
   pub next-quoted : (c : Change) → Good u l n c → l .tag ≡ 23 → Next u l n c (newEntry 1 8 [] c)
-  unfolding newEntry adding shapeOf shapeAt columnsOf blank putAll putOne isNumber filledBy withCell fills paired Fits choices
+  unfolding newEntry adding shapeOf shapeAt columnsOf blank putAll putOne isNumber filledBy withCell fills paired Fits choices allFitAlone
   next-quoted c G e =
       next-add u l n look-in (shape 1) 0 (entry .region ≔ c .current ∷ entry .kind ≔ 8 ∷ []) c 4 (shapeAt 23 1 .texts) G (ap (λ (g : ℕ). shapeAt g 1) e) refl refl (λ U x.
       entry-nums (at u U (c .ids) (c .docs)) (c .current) 8 0 0 0 0 _ refl (zero-grow (now l n c) U x 3 (c .current) (G .current)) refl (λ z. absurd (z refl)) (λ z. absurd (z refl)) (λ z. absurd (z refl)) refl)
 
   pub next-script : (c : Change) → Good u l n c → l .tag ≡ 26 → Next u l n c (newEntry 0 2 [] c)
-  unfolding newEntry adding shapeOf shapeAt columnsOf blank putAll putOne isNumber filledBy withCell fills paired Fits choices
+  unfolding newEntry adding shapeOf shapeAt columnsOf blank putAll putOne isNumber filledBy withCell fills paired Fits choices allFitAlone
   next-script c G e =
       next-add u l n look-in (shape 0) 0 (entry .region ≔ c .current ∷ entry .kind ≔ 2 ∷ []) c 4 (shapeAt 26 0 .texts) G (ap (λ (g : ℕ). shapeAt g 0) e) refl refl (λ U x.
       entry-nums (at u U (c .ids) (c .docs)) (c .current) 2 0 0 0 0 _ refl (zero-grow (now l n c) U x 3 (c .current) (G .current)) refl (λ z. absurd (z refl)) (λ z. absurd (z refl)) (λ z. absurd (z refl)) refl)
 
   pub next-send : (s : ℕ) (c : Change) → Good u l n c → OrZero (now l n c) 1 s → l .tag ≡ 19 → Next u l n c (newEntry 0 5 (entry .state ≔ s ∷ []) c)
-  unfolding newEntry adding shapeOf shapeAt columnsOf blank putAll putOne isNumber filledBy withCell fills paired Fits choices
+  unfolding newEntry adding shapeOf shapeAt columnsOf blank putAll putOne isNumber filledBy withCell fills paired Fits choices allFitAlone
   next-send s c G h e =
       next-add u l n look-in (shape 0) 0 (entry .region ≔ c .current ∷ entry .kind ≔ 5 ∷ entry .state ≔ s ∷ []) c 4 (shapeAt 19 0 .texts) G (ap (λ (g : ℕ). shapeAt g 0) e) refl refl (λ U x.
       entry-nums (at u U (c .ids) (c .docs)) (c .current) 5 s 0 0 0 _ refl (zero-grow (now l n c) U x 3 (c .current) (G .current)) refl (zero-grow (now l n c) U x 1 s h) (λ z. absurd (z refl)) (λ z. absurd (z refl)) refl)
@@ -134,7 +134,7 @@ module _ (u : ℕ) (l : Look) (n : Numbers) (look-in : LookIn u l) where
 
     invoke-add : l .tag ≡ 8 → (leb 0 (codeFor l (key .autoforward) 0) && leb (codeFor l (key .autoforward) 0) 1) ≡ true
         → Next u l n (nothing n) (adding (shape 0) (invoke .state ≔ currentState n ∷ invoke .autoforward ≔ codeFor l (key .autoforward) 0 ∷ []) (nothing n))
-    unfolding adding shapeOf shapeAt columnsOf blank putAll putOne isNumber filledBy withCell fills paired
+    unfolding adding shapeOf shapeAt columnsOf blank putAll putOne isNumber filledBy withCell fills paired allFitAlone
     invoke-add e a =
         next-add u l n look-in (shape 0) 0 (invoke .state ≔ currentState n ∷ invoke .autoforward ≔ codeFor l (key .autoforward) 0 ∷ []) (nothing n) 5 (shapeAt 8 0 .texts) (R .good) (ap (λ (g : ℕ). shapeAt g 0) e) refl refl (λ U x.
         invoke-nums (at u U (nothing n .ids) (nothing n .docs)) (currentState n) (codeFor l (key .autoforward) 0) 0 0 _ refl (zero-grow (now l n (nothing n)) U x 1 (currentState n) (state-row u l n look-in b R)) a (λ z. absurd (z refl)) refl)

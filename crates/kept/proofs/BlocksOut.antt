@@ -26,7 +26,7 @@ use Rattle.kept.proofs.Regions.{tags-block, blocks-block}
 use Rattle.kept.proofs.Members.{Out, out, out-unless}
 use Rattle.kept.proofs.Next.{next-add}
 use Rattle.kept.proofs.StatesOut.{Ready}
-use Rattle.kept.proofs.Entries.{entry-nums, add-swapped, good-as}
+use Rattle.kept.proofs.Entries.{entry-nums, allFitAlone, add-swapped, good-as}
 
 -- ---- a region's number is drawn
 
@@ -62,7 +62,7 @@ module _ (u : ℕ) (l : Look) (n : Numbers) (look-in : LookIn u l) where
   ext-nested g c = ext-region u l n look-in (openRegionRow (c .current) g ∷ c .regions) c
 
   good-if : (g : ℕ) (c : Change) → Good u l n c → l .tag ≡ 24 → Good u l n (regionFirst g 1 c)
-  unfolding nestedRegion regionOver shapeOf shapeAt columnsOf blank putAll putOne isNumber filledBy withCell fills paired Fits choices
+  unfolding nestedRegion regionOver shapeOf shapeAt columnsOf blank putAll putOne isNumber filledBy withCell fills paired Fits choices allFitAlone
   good-if g c G e =
       let F = good-nested u l n look-in g c G in
       let d : Change = nestedRegion g c in
@@ -72,7 +72,7 @@ module _ (u : ℕ) (l : Look) (n : Numbers) (look-in : LookIn u l) where
       (λ z. (row-grow (now l n d) U x 3 (suc (c .ids)) (F .1), region-drawn u (n .tables) (now l n c) (c .ids) (c .docs) (G .sound) (c .current) (G .current))) (λ z. absurd (z refl)) refl) .good
 
   good-foreach : (g : ℕ) (c : Change) → Good u l n c → l .tag ≡ 25 → Good u l n (regionFirst g 4 c)
-  unfolding nestedRegion regionOver shapeOf shapeAt columnsOf blank putAll putOne isNumber filledBy withCell fills paired Fits choices
+  unfolding nestedRegion regionOver shapeOf shapeAt columnsOf blank putAll putOne isNumber filledBy withCell fills paired Fits choices allFitAlone
   good-foreach g c G e =
       let F = good-nested u l n look-in g c G in
       let d : Change = nestedRegion g c in
@@ -82,7 +82,7 @@ module _ (u : ℕ) (l : Look) (n : Numbers) (look-in : LookIn u l) where
       (λ z. (row-grow (now l n d) U x 3 (suc (c .ids)) (F .1), region-drawn u (n .tables) (now l n c) (c .ids) (c .docs) (G .sound) (c .current) (G .current))) (λ z. absurd (z refl)) refl) .good
 
   pub good-elseif : (g : ℕ) (c : Change) → Good u l n c → l .tag ≡ 13 → Good u l n (regionFirst g 1 c)
-  unfolding nestedRegion regionOver shapeOf shapeAt columnsOf blank putAll putOne isNumber filledBy withCell fills paired Fits choices
+  unfolding nestedRegion regionOver shapeOf shapeAt columnsOf blank putAll putOne isNumber filledBy withCell fills paired Fits choices allFitAlone
   good-elseif g c G e =
       let F = good-nested u l n look-in g c G in
       let d : Change = nestedRegion g c in

@@ -36,10 +36,10 @@ module _ (u : ℕ) (l : Look) (n : Numbers) (look-in : LookIn u l) (b : ℕ) (R 
   unfolding adding columnsOf blank putAll putOne isNumber filledBy withCell fills paired Nums Fits chosen shapeAt
   data-add e zero s v =
       next-add u l n look-in (shape 0) 0 (datum .state ≔ currentState n ∷ []) (nothing n) 6 (shapeAt 9 0 .texts) (R .good) s refl refl (λ U x.
-      (zero-grow (now l n (nothing n)) U x 1 (currentState n) (state-row u l n look-in b R), (tt, (tt, (tt, (tt, (tt, (tt, (tt, tt)))))))))
+      (zero-grow (now l n (nothing n)) U x 1 (currentState n) (state-row u l n look-in b R), (tt, (tt, (tt, (tt, (tt, (tt, (refl, tt)))))))))
   data-add e (suc zero) s v =
       next-add u l n look-in (shape 1) 0 (datum .state ≔ currentState n ∷ []) (nothing n) 6 (shapeAt 9 1 .texts) (R .good) s refl refl (λ U x.
-      (zero-grow (now l n (nothing n)) U x 1 (currentState n) (state-row u l n look-in b R), (tt, (tt, (tt, (tt, (tt, (tt, (tt, tt)))))))))
+      (zero-grow (now l n (nothing n)) U x 1 (currentState n) (state-row u l n look-in b R), (tt, (tt, (tt, (tt, (tt, (tt, (refl, tt)))))))))
   data-add e (suc (suc v)) s k = absurd (omega (arith, Rattle.kept.proofs.Base.le-of (suc (suc v)) 1 k))
 
   data-alter : l .tag ≡ 9 → (v : ℕ) → shapeOf (l .tag) (shape v) ≡ record { into = 6; texts = shapeAt 9 v .texts } → (leb v 1) ≡ true → Next u l n (nothing n) (altering (shape v) (l .found) [] (nothing n))

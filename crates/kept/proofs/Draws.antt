@@ -69,7 +69,7 @@ module _ (u : ℕ) (l : Look) (n : Numbers) (look-in : LookIn u l) where
       let x : ExtAll T U = ext-added u l n look-in 3 r T in
       let R : Sound u T U (suc (c .ids)) (c .docs) =
       sound-region u T T (c .ids) (c .docs) S r (suc (c .ids)) (c .docs) (omega arith) (omega arith) refl
-      (record { nums = ((omega arith, omega arith), (tt, (tt, (tt, (tt, (tt, (tt, (tt, tt)))))))); texts = new-texts u 3 [] ps l 0 look-in refl }) in
+      (record { nums = ((omega arith, omega arith), (refl, (refl, (refl, (refl, (refl, (refl, (refl, tt)))))))); texts = new-texts u 3 [] ps l 0 look-in refl }) in
       let z : now l n (regionOver rs c) ≡ U = edited-snoc l (c .edits) (add (numbers 3) 0 ps) (n .tables) ∙ add-now u l n look-in (numbers 3) 0 ps 3 [] refl T in
       let h : HasRow U 3 (suc (c .ids)) = has-new T 3 r (c .ids) (G .sound .twelve) refl refl refl in (
         good-to u l n look-in c (regionOver rs c) G (subst (λ (X : List Table). Sound u T X (suc (c .ids)) (c .docs)) (sym z) R)
@@ -82,7 +82,7 @@ module _ (u : ℕ) (l : Look) (n : Numbers) (look-in : LookIn u l) where
 
   pub open-row : (T : List Table) (i d r g : ℕ) → OrZero T 3 r → RowOk (at u T i d) 11 (openRegionRow r g)
   unfolding openRegionRow Nums Fits Texts Laid columnsOf
-  open-row T i d r g h = record { nums = (h, (tt, (tt, (tt, (tt, (tt, (tt, (tt, tt)))))))); texts = (tt, (tt, (tt, (tt, (tt, (tt, (tt, (tt, tt)))))))) }
+  open-row T i d r g h = record { nums = (h, (tt, (refl, (refl, (refl, (refl, (refl, (refl, tt)))))))); texts = (tt, (tt, (tt, (tt, (tt, (tt, (tt, (tt, tt)))))))) }
 
   pub good-nested : (g : ℕ) (c : Change) → Good u l n c → Good u l n (nestedRegion g c) × HasRow (now l n (nestedRegion g c)) 3 (suc (c .ids))
   unfolding nestedRegion

@@ -55,7 +55,7 @@ unfolding stateRow withCell blank columnsOf Nums Fits chosen Texts Laid followin
 state-row-ok W c h =
     record {
       nums =
-          (tt, (tt, (omega arith, ((λ z. absurd (z refl)), ((λ z. absurd (z refl)), (refl, (refl, (refl, (omega arith, (refl, (tt, (tt, (tt, (tt, (tt, (tt, (tt, (tt, (tt, (tt, (tt, (tt, (tt, (tt, tt))))))))))))))))))))))));
+          (tt, (tt, (omega arith, ((λ z. absurd (z refl)), ((λ z. absurd (z refl)), (refl, (refl, (refl, (omega arith, (refl, (tt, (tt, (tt, (tt, (refl, (refl, (refl, (refl, (refl, (refl, (refl, (refl, (refl, (refl, tt))))))))))))))))))))))));
       texts = (h, (tt, (tt, (tt, (tt, (tt, (tt, (tt, (tt, (tt, (refl, (tt, (refl, (tt, (tt, (tt, (tt, (tt, (tt, (tt, (tt, (tt, (tt, (tt, tt))))))))))))))))))))))));
     }
 

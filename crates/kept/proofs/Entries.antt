@@ -1,9 +1,9 @@
 -- Entries, and edits that change places.
-use Prim.Native.Nat.{ℕ, suc}
+use Prim.Native.Nat.{ℕ, zero, suc}
 use mathlib.Core.Path.{_≡_, refl, sym, ap, _∙_, subst}
 use mathlib.Core.Bool.{Bool, true, false, _&&_, not}
 use mathlib.Core.List.{List, [], _∷_, _++_}
-use lib.ListN.{length, getD, set, drop, length-append}
+use lib.ListN.{length, getD, set, drop, replicate, length-append}
 use lib.Dec.{leb}
 use lib.Seq.{getD-set-other, getD-set-same, set-comm}
 use native.Mathlib.Omega.{arith}
@@ -21,46 +21,55 @@ use Rattle.kept.proofs.RowTexts.{LookIn}
 use Rattle.kept.proofs.Tables.{newRow}
 use Rattle.kept.proofs.Steps.{now, Good, edited-snoc, add-now}
 
--- ---- columns of which nothing is asked
+-- ---- columns whose class asks at most for a code
 
-unfoldable pub isLoose : Class → Bool
-isLoose (text q) = true
-isLoose len = true
-isLoose free = true
-isLoose own = false
-isLoose docId = false
-isLoose above = false
-isLoose mark = false
-isLoose (code a b) = false
-isLoose (row t) = false
-isLoose (existing t) = false
-isLoose (by c k) = false
+unfoldable pub fitsAlone : Class → ℕ → Bool
+fitsAlone (text q) v = true
+fitsAlone len v = true
+fitsAlone free v = true
+fitsAlone own v = false
+fitsAlone docId v = false
+fitsAlone above v = false
+fitsAlone mark v = false
+fitsAlone (code a b) v = leb a v && leb v b
+fitsAlone (row t) v = false
+fitsAlone (existing t) v = false
+fitsAlone (by c k) v = false
 
-unfoldable pub loose : List Class → Bool
-unfolding isLoose
-loose [] = true
-loose (c ∷ cs) = isLoose c && loose cs
+unfoldable pub allFitAlone : List Class → Row → Bool
+unfolding fitsAlone
+allFitAlone [] [] = true
+allFitAlone [] (v ∷ vs) = false
+allFitAlone (c ∷ cs) [] = false
+allFitAlone (c ∷ cs) (v ∷ vs) = fitsAlone c v && allFitAlone cs vs
 
-loose-fits : (W : View) (r : Row) (c : Class) (v : ℕ) → isLoose c ≡ true → Fits W r (chosen r c) v
-unfolding Fits isLoose chosen
-loose-fits W r (text q) v e = tt
-loose-fits W r len v e = tt
-loose-fits W r free v e = tt
-loose-fits W r own v e = false-is-true e
-loose-fits W r docId v e = false-is-true e
-loose-fits W r above v e = false-is-true e
-loose-fits W r mark v e = false-is-true e
-loose-fits W r (code a b) v e = false-is-true e
-loose-fits W r (row t) v e = false-is-true e
-loose-fits W r (existing t) v e = false-is-true e
-loose-fits W r (by c k) v e = false-is-true e
+alone-fits : (W : View) (r : Row) (c : Class) (v : ℕ) → fitsAlone c v ≡ true → Fits W r (chosen r c) v
+unfolding Fits fitsAlone chosen
+alone-fits W r (text q) v e = tt
+alone-fits W r len v e = tt
+alone-fits W r free v e = tt
+alone-fits W r own v e = false-is-true e
+alone-fits W r docId v e = false-is-true e
+alone-fits W r above v e = false-is-true e
+alone-fits W r mark v e = false-is-true e
+alone-fits W r (code a b) v e = e
+alone-fits W r (row t) v e = false-is-true e
+alone-fits W r (existing t) v e = false-is-true e
+alone-fits W r (by c k) v e = false-is-true e
 
-pub loose-nums : (W : View) (r : Row) (cs : List Class) (vs : Row) → loose cs ≡ true → length vs ≡ length cs → Nums W r cs vs
-unfolding Nums loose
-loose-nums W r [] [] e f = tt
-loose-nums W r [] (v ∷ vs) e f = absurd (omega arith)
-loose-nums W r (c ∷ cs) [] e f = absurd (omega arith)
-loose-nums W r (c ∷ cs) (v ∷ vs) e f = (loose-fits W r c v (and-left (isLoose c) (loose cs) e), loose-nums W r cs vs (and-right (isLoose c) (loose cs) e) (omega arith))
+pub free-alone : (k : ℕ) (vs : Row) → length vs ≡ k → allFitAlone (replicate k free) vs ≡ true
+unfolding allFitAlone
+free-alone zero [] e = refl
+free-alone zero (v ∷ vs) e = absurd (omega arith)
+free-alone (suc k) [] e = absurd (omega arith)
+free-alone (suc k) (v ∷ vs) e = free-alone k vs (omega arith)
+
+pub alone-nums : (W : View) (r : Row) (cs : List Class) (vs : Row) → allFitAlone cs vs ≡ true → Nums W r cs vs
+unfolding Nums allFitAlone
+alone-nums W r [] [] e = tt
+alone-nums W r [] (v ∷ vs) e = false-is-true e
+alone-nums W r (c ∷ cs) [] e = false-is-true e
+alone-nums W r (c ∷ cs) (v ∷ vs) e = (alone-fits W r c v (and-left (fitsAlone c v) (allFitAlone cs vs) e), alone-nums W r cs vs (and-right (fitsAlone c v) (allFitAlone cs vs) e))
 
 -- Columns without a text.
 unfoldable pub textless : List Class → Bool
@@ -96,16 +105,16 @@ contentClass k = getD (getD choices 0 []) k free
 abbrev elseClass : ℕ → Class
 elseClass k = getD (getD choices 1 []) k free
 
-pub entry-nums : (W : View) (r k st co el hc : ℕ) (vs : Row) → length vs ≡ 42 → OrZero (W .tables) 3 r → (leb 1 k && leb k 8) ≡ true → OrZero (W .tables) 1 st
+pub entry-nums : (W : View) (r k st co el hc : ℕ) (vs : Row) → allFitAlone (drop 6 (columnsOf 4)) vs ≡ true → OrZero (W .tables) 3 r → (leb 1 k && leb k 8) ≡ true → OrZero (W .tables) 1 st
     → Fits W (r ∷ k ∷ st ∷ co ∷ el ∷ hc ∷ vs) (contentClass k) co → Fits W (r ∷ k ∷ st ∷ co ∷ el ∷ hc ∷ vs) (elseClass k) el → (leb 0 hc && leb hc 1) ≡ true
     → Nums W (r ∷ k ∷ st ∷ co ∷ el ∷ hc ∷ vs) (columnsOf 4) (r ∷ k ∷ st ∷ co ∷ el ∷ hc ∷ vs)
-unfolding Nums columnsOf chosen Fits loose
-entry-nums W r k st co el hc vs e a b c d f g = (a, (b, (c, (d, (f, (g, loose-nums W (r ∷ k ∷ st ∷ co ∷ el ∷ hc ∷ vs) (drop 6 (columnsOf 4)) vs refl e))))))
+unfolding Nums columnsOf chosen Fits allFitAlone
+entry-nums W r k st co el hc vs e a b c d f g = (a, (b, (c, (d, (f, (g, alone-nums W (r ∷ k ∷ st ∷ co ∷ el ∷ hc ∷ vs) (drop 6 (columnsOf 4)) vs e))))))
 
-pub invoke-nums : (W : View) (st a f hc : ℕ) (vs : Row) → length vs ≡ 20 → OrZero (W .tables) 1 st → (leb 0 a && leb a 1) ≡ true → OrZero (W .tables) 3 f → (leb 0 hc && leb hc 1) ≡ true
+pub invoke-nums : (W : View) (st a f hc : ℕ) (vs : Row) → allFitAlone (drop 4 (columnsOf 5)) vs ≡ true → OrZero (W .tables) 1 st → (leb 0 a && leb a 1) ≡ true → OrZero (W .tables) 3 f → (leb 0 hc && leb hc 1) ≡ true
     → Nums W (st ∷ a ∷ f ∷ hc ∷ vs) (columnsOf 5) (st ∷ a ∷ f ∷ hc ∷ vs)
-unfolding Nums columnsOf chosen Fits loose
-invoke-nums W st a f hc vs e x y z w = (x, (y, (z, (w, loose-nums W (st ∷ a ∷ f ∷ hc ∷ vs) (drop 4 (columnsOf 5)) vs refl e))))
+unfolding Nums columnsOf chosen Fits allFitAlone
+invoke-nums W st a f hc vs e x y z w = (x, (y, (z, (w, alone-nums W (st ∷ a ∷ f ∷ hc ∷ vs) (drop 4 (columnsOf 5)) vs e))))
 
 -- ---- edits of two tables change places
 

@@ -7,7 +7,7 @@ use lib.ListN.{getD}
 use lib.Dec.{leb}
 use native.Mathlib.Omega.{arith}
 use Rattle.definition.specs.Elements.{tag}
-use Rattle.definition.specs.Rows.{Row, Table, Class, free, row, columnsOf, choices, blank, Numbers, member, list, Cell, cellAt, withCell}
+use Rattle.definition.specs.Rows.{Row, Table, Class, free, spare, row, columnsOf, choices, blank, Numbers, member, list, Cell, cellAt, withCell}
 use Rattle.definition.specs.Shapes.{_⇐_, word}
 use Rattle.definition.specs.Look.{Look}
 use Rattle.definition.specs.Change.{Put, _≔_, numbers, shape, add, Change, Outcome, done, refuse, unlessZero, putAll, putOne, isNumber, filledBy, cellOf, also, adding, shapeOf, addMember, addMembers, addWordsFrom}
@@ -34,16 +34,16 @@ valueClass k = getD (getD choices 4 []) k free
 pub member-nums : (W : View) (k o v a b : ℕ) → (leb 1 k && leb k 9) ≡ true → Fits W (memberRow k o v a b) (ownerClass k) o → Fits W (memberRow k o v a b) (valueClass k) v
     → Nums W (memberRow k o v a b) (columnsOf 8) (memberRow k o v a b)
 unfolding Nums columnsOf chosen Fits
-member-nums W k o v a b e f g = (e, (f, (g, (tt, (tt, (tt, (tt, (tt, tt))))))))
+member-nums W k o v a b e f g = (e, (f, (g, (tt, (tt, (refl, (refl, (refl, tt))))))))
 
 module _ (u : ℕ) (l : Look) (n : Numbers) (look-in : LookIn u l) where
-  one-word : (k o t kk : ℕ) → (leb 1 k && leb k 9) ≡ true → ownerClass k ≡ row t → valueClass k ≡ free → shapeOf (l .tag) (shape 1) ≡ record { into = 8; texts = member .word ⇐ word kk ∷ [] }
+  one-word : (k o t kk : ℕ) → (leb 1 k && leb k 9) ≡ true → ownerClass k ≡ row t → valueClass k ≡ spare → shapeOf (l .tag) (shape 1) ≡ record { into = 8; texts = member .word ⇐ word kk ∷ [] }
       → (i : ℕ) (c : Change) → Good u l n c → HasRow (now l n c) t o → Good u l n (also (add (shape 1) i (member .list ≔ k ∷ member .owner ≔ o ∷ [])) c)
   unfolding columnsOf blank putAll putOne isNumber filledBy withCell fills paired Fits
   one-word k o t kk e f g s i c G h =
       let x : Cell = cellOf l i (cellAt (blank 8) 3) (word kk) in
       good-add u l n look-in (shape 1) i (member .list ≔ k ∷ member .owner ≔ o ∷ []) c 8 (member .word ⇐ word kk ∷ []) G s refl refl (λ U y.
-      member-nums (at u U (c .ids) (c .docs)) k o 0 (x .at) (x .len) e (rw f (λ z. row-grow (now l n c) U y t o h)) (rw g tt))
+      member-nums (at u U (c .ids) (c .docs)) k o 0 (x .at) (x .len) e (rw f (λ z. row-grow (now l n c) U y t o h)) (rw g refl))
 
   pub good-member : (k o v : ℕ) (c : Change) → Good u l n c → (leb 1 k && leb k 9) ≡ true
       → ((U : List Table) → ExtAll (now l n c) U → Fits (at u U (c .ids) (c .docs)) (memberRow k o v 0 0) (ownerClass k) o)
@@ -77,7 +77,7 @@ module _ (u : ℕ) (l : Look) (n : Numbers) (look-in : LookIn u l) where
 
   -- ---- words: t is the table of their owners
 
-  pub good-words : (k o t kk : ℕ) → (leb 1 k && leb k 9) ≡ true → ownerClass k ≡ row t → valueClass k ≡ free → shapeOf (l .tag) (shape 1) ≡ record { into = 8; texts = member .word ⇐ word kk ∷ [] }
+  pub good-words : (k o t kk : ℕ) → (leb 1 k && leb k 9) ≡ true → ownerClass k ≡ row t → valueClass k ≡ spare → shapeOf (l .tag) (shape 1) ≡ record { into = 8; texts = member .word ⇐ word kk ∷ [] }
       → (i m : ℕ) (c : Change) → Good u l n c → HasRow (now l n c) t o → Good u l n (addWordsFrom (shape 1) k o i m c)
   unfolding addWordsFrom
   good-words k o t kk e f g s i zero c G h = G

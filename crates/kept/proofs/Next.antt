@@ -7,7 +7,7 @@ use mathlib.Core.List.{List, [], _∷_}
 use lib.ListN.{length, getD}
 use lib.Dec.{leb}
 use native.Mathlib.Omega.{arith}
-use Rattle.definition.specs.Rows.{Row, Table, free, row, num, columnsOf, rowOf, Numbers, member}
+use Rattle.definition.specs.Rows.{Row, Table, spare, row, num, columnsOf, rowOf, Numbers, member}
 use Rattle.definition.specs.Shapes.{Filling, _⇐_, word}
 use Rattle.definition.specs.Look.{Look}
 use Rattle.definition.specs.Change.{Put, _≔_, Which, shape, add, Change, Outcome, Closed, closedBy, onClosed, closing, filledBy, also, adding, altering, drawn, drawDoc, inside, shapeOf, addMember, addMembers, addWordsFrom, addWords}
@@ -91,7 +91,7 @@ module _ (u : ℕ) (l : Look) (n : Numbers) (look-in : LookIn u l) where
   words-regions k o i zero c = refl
   words-regions k o i (suc m) c = words-regions k o (suc i) m (also (add (shape 1) i (member .list ≔ k ∷ member .owner ≔ o ∷ [])) c)
 
-  pub next-words : (k o t kk : ℕ) → (leb 1 k && leb k 9) ≡ true → ownerClass k ≡ row t → valueClass k ≡ free → shapeOf (l .tag) (shape 1) ≡ record { into = 8; texts = member .word ⇐ word kk ∷ [] }
+  pub next-words : (k o t kk : ℕ) → (leb 1 k && leb k 9) ≡ true → ownerClass k ≡ row t → valueClass k ≡ spare → shapeOf (l .tag) (shape 1) ≡ record { into = 8; texts = member .word ⇐ word kk ∷ [] }
       → (m : ℕ) (c : Change) → Good u l n c → HasRow (now l n c) t o → Next u l n c (addWords (shape 1) k o m c)
   unfolding addWords
   next-words k o t kk e f g s m c G h =

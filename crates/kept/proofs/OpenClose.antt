@@ -19,7 +19,7 @@ use Rattle.kept.proofs.Sound.{at, Sound}
 use Rattle.kept.proofs.Steps.{now, Good}
 use Rattle.kept.proofs.Regions.{Tags, blocks-append, blocks-reverse}
 use Rattle.kept.proofs.Dispatch.{room}
-use Rattle.kept.proofs.Entries.{loose, loose-nums, textless, plain-texts}
+use Rattle.kept.proofs.Entries.{free-alone, alone-nums, textless, plain-texts}
 use Rattle.kept.proofs.Low.{has-same}
 use Rattle.kept.proofs.Reopened.{reopened, low-same, at-nine, at-ten, at-eleven, sound-reopened}
 use Rattle.kept.proofs.Okay.{Ok, OkOf, NamedSo, All-reverse, names-append, names-drop, All-drop, length-drop-last, blocks-last}
@@ -52,13 +52,13 @@ module _ (L : Limits) (t : List ℕ) (n : Numbers) (K : OkOf L t n) (l : Look) (
   row-nine : Named L l → RowOk (at u T (c .ids) (c .docs)) 9 (openedRow l c)
   unfolding openedRow Nums Fits Texts Laid columnsOf chosen
   row-nine N =
-      record { nums = (N .tag, (G .state, (G .transition, (tt, (tt, (tt, (tt, (tt, tt)))))))); texts = (tt, (tt, (tt, (tt, (tt, (tt, (tt, (tt, tt)))))))) }
+      record { nums = (N .tag, (G .state, (G .transition, (tt, (refl, (refl, (refl, (refl, tt)))))))); texts = (tt, (tt, (tt, (tt, (tt, (tt, (tt, (tt, tt)))))))) }
 
   row-ten : Named L l → RowOk (at u T (c .ids) (c .docs)) 10 (l .name)
   row-ten N = record { nums = ten-nums; texts = ten-texts }
     where
       ten-nums : Nums (at u T (c .ids) (c .docs)) (l .name) (columnsOf 10) (l .name)
-      ten-nums = unfold columnsOf loose in loose-nums (at u T (c .ids) (c .docs)) (l .name) (columnsOf 10) (l .name) refl (N .width)
+      ten-nums = unfold columnsOf in alone-nums (at u T (c .ids) (c .docs)) (l .name) (columnsOf 10) (l .name) (free-alone 64 (l .name) (N .width))
 
       ten-texts : Texts u (columnsOf 10) (l .name)
       ten-texts = unfold columnsOf in plain-texts u (columnsOf 10) (l .name) (unfold columnsOf textless in refl) (N .width)
