@@ -20,7 +20,8 @@ use Rattle.definition.specs.Rules.{
   blocksIn,
   isRowOrZero,
 }
-use Rattle.definition.specs.Reader.{Lent, Position, Call, event, reading, Answer, call, inOrder, counts, storeOf}
+use Rattle.definition.specs.declared.Position.{Position}
+use Rattle.definition.specs.Reader.{Lent, Call, event, reading, Answer, call, inOrder, counts, storeOf}
 use Rattle.definition.specs.Stars.{Held, holdsAll}
 
 -- ---- numbers of limits and of a position
@@ -130,8 +131,8 @@ positionFrom ns =
       datums = getD ns (position .datums) 0;
       parameters = getD ns (position .parameters) 0;
       members = getD ns (position .members) 0;
-      openRegions = getD ns (position .openRegions) 0;
-      current = getD ns (position .current) 0;
+      «open_regions» = getD ns (position .openRegions) 0;
+      current = record { 0 = getD ns (position .current) 0 };
       ids = getD ns (position .ids) 0;
       docs = getD ns (position .docs) 0;
       names = getD ns (position .names) 0;
@@ -141,7 +142,7 @@ positionFrom ns =
 
 unfoldable pub numbersOf : Position → List ℕ
 numbersOf p =
-    p .opened ∷ p .states ∷ p .transitions ∷ p .regions ∷ p .entries ∷ p .invokes ∷ p .datums ∷ p .parameters ∷ p .members ∷ p .openRegions ∷ p .current ∷ p .ids
+    p .opened ∷ p .states ∷ p .transitions ∷ p .regions ∷ p .entries ∷ p .invokes ∷ p .datums ∷ p .parameters ∷ p .members ∷ p .«open_regions» ∷ p .current .0 ∷ p .ids
     ∷ p .docs ∷ p .names ∷ p .used ∷ p .charge ∷ []
 
 -- ---- made-up stores and what a case alters in one

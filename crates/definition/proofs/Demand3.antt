@@ -12,7 +12,8 @@ use Rattle.definition.specs.Text.{allAllowed}
 use Rattle.definition.specs.Elements.{Role, names}
 use Rattle.definition.specs.Rows.{Row, Table, table, shown, blank, Cell, noCell, cellAt, textFrom, textAt, Numbers, Store}
 use Rattle.definition.specs.Rules.{tableLimits, keepsRules}
-use Rattle.definition.specs.Reader.{Reply, eventReply, noRow, exists, rowRead, Lent, Position, counts, taken, storeOf, rowsIn, positionOf, over, overAll, lentAfter, allLong, longEnough, allAtMost, inOrder, Call, event, reading, Answer, refused, answerOf, answerTo, call, run, start}
+use Rattle.definition.specs.declared.Position.{Position}
+use Rattle.definition.specs.Reader.{Reply, eventReply, noRow, exists, rowRead, Lent, counts, taken, storeOf, rowsIn, positionOf, over, overAll, lentAfter, allLong, longEnough, allAtMost, inOrder, Call, event, reading, Answer, refused, answerOf, answerTo, call, run, start}
 use Rattle.definition.specs.Renaming.{Renaming, Moved, zeroTables, zeros, roleAt, shownRole, CallRel, CallsRel, TextsRel, kindAsked, AnswerRel, AnswersRel, Demand3}
 use Rattle.definition.proofs.Base.{All, All-append, elim-cond}
 use Rattle.definition.proofs.Words.{Total}
@@ -96,7 +97,7 @@ module _ (ρ : List ℕ → List ℕ) (N : Renaming ρ) where
   unfolding storeOf
   store-ρ x y p h =
       record {
-        numbers = ap (λ (ts : List Table). record { tables = taken (counts p) ts; current = p .current; ids = p .ids; docs = p .docs; names = p .names; charge = p .charge }) (h .tables);
+        numbers = ap (λ (ts : List Table). record { tables = taken (counts p) ts; current = p .current .0; ids = p .ids; docs = p .docs; names = p .names; charge = p .charge }) (h .tables);
         size = h .used;
         ok =
             from-zero (RowOk σ R (take (p .used) (x .text)) (take (p .used) (y .text)) (h .used)) (taken (counts p) (x .tables))
@@ -203,8 +204,8 @@ module _ (ρ : List ℕ → List ℕ) (N : Renaming ρ) where
             datums = rowsIn n (table .datums);
             parameters = rowsIn n (table .parameters);
             members = rowsIn n (table .members);
-            openRegions = rowsIn n (table .openRegions);
-            current = n .current;
+            «open_regions» = rowsIn n (table .openRegions);
+            current = record { 0 = n .current };
             ids = n .ids;
             docs = n .docs;
             names = n .names;

@@ -6,6 +6,7 @@ use mathlib.Core.List.{List, [], _∷_, _++_}
 use lib.ListN.{length, getD, take, drop, replicate}
 use lib.Dec.{eqb, leb, ltb}
 use Rattle.definition.specs.declared.Limits.{Limits}
+use Rattle.definition.specs.declared.Position.{Position}
 use Rattle.definition.specs.Elements.{tag, key, leftOutKeys, requirements, requiredIn, Apart, exclusions, codings, wordsTaken}
 use Rattle.definition.specs.Nesting.{parentAllowed}
 use Rattle.definition.specs.Event.{Event, readEvent, inForm, keysDiffer, kind, eventsOf}
@@ -280,28 +281,11 @@ pub record Lent : Type 0 where
   pub tables : List Table
   pub text : List ℕ
 
--- "The reading position (depth, counters, current region) goes in by value and comes back": how many rows of each table are in use, and the numbers.
-pub record Position : Type 0 where
-  pub opened : ℕ
-  pub states : ℕ
-  pub transitions : ℕ
-  pub regions : ℕ
-  pub entries : ℕ
-  pub invokes : ℕ
-  pub datums : ℕ
-  pub parameters : ℕ
-  pub members : ℕ
-  pub openRegions : ℕ
-  pub current : ℕ
-  pub ids : ℕ
-  pub docs : ℕ
-  pub names : ℕ
-  pub used : ℕ
-  pub charge : ℕ
-
+-- "The reading position (depth, counters, current region) goes in by value and comes back": `Position`, declared in src. How many rows of each table are in
+-- use; the chart has one row, and as many names are open as elements.
 unfoldable pub counts : Position → List ℕ
 counts p =
-    1 ∷ p .states ∷ p .transitions ∷ p .regions ∷ p .entries ∷ p .invokes ∷ p .datums ∷ p .parameters ∷ p .members ∷ p .opened ∷ p .opened ∷ p .openRegions ∷ []
+    1 ∷ p .states ∷ p .transitions ∷ p .regions ∷ p .entries ∷ p .invokes ∷ p .datums ∷ p .parameters ∷ p .members ∷ p .opened ∷ p .opened ∷ p .«open_regions» ∷ []
 
 unfoldable pub taken : List ℕ → List Table → List Table
 taken [] ts = []
@@ -313,7 +297,7 @@ unfoldable pub storeOf : Lent → Position → Store
 unfolding taken counts
 storeOf x p =
     record {
-      numbers = record { tables = taken (counts p) (x .tables); current = p .current; ids = p .ids; docs = p .docs; names = p .names; charge = p .charge };
+      numbers = record { tables = taken (counts p) (x .tables); current = p .current .0; ids = p .ids; docs = p .docs; names = p .names; charge = p .charge };
       text = take (p .used) (x .text);
     }
 
@@ -334,8 +318,8 @@ positionOf s =
       datums = rowsIn n (table .datums);
       parameters = rowsIn n (table .parameters);
       members = rowsIn n (table .members);
-      openRegions = rowsIn n (table .openRegions);
-      current = n .current;
+      «open_regions» = rowsIn n (table .openRegions);
+      current = record { 0 = n .current };
       ids = n .ids;
       docs = n .docs;
       names = n .names;
@@ -462,8 +446,8 @@ start =
       datums = 0;
       parameters = 0;
       members = 0;
-      openRegions = 0;
-      current = 0;
+      «open_regions» = 0;
+      current = record { 0 = 0 };
       ids = 0;
       docs = 0;
       names = 0;

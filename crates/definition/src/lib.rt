@@ -82,3 +82,32 @@ impl Chart {
         }
     }
 }
+
+/// Numbers of rows are three types: one given for another does not compile.
+pub struct StateId(pub u32);
+
+pub struct TransitionId(pub u32);
+
+pub struct RegionId(pub u32);
+
+/// The reading position, which goes in by value and comes back: how many rows of each table are in use, how many elements and regions are open, the current
+/// region, what was drawn from each counter, how much of the text is in use, and the text charge.
+#[repr(C)]
+pub struct Position {
+    pub opened: u32,
+    pub states: u32,
+    pub transitions: u32,
+    pub regions: u32,
+    pub entries: u32,
+    pub invokes: u32,
+    pub datums: u32,
+    pub parameters: u32,
+    pub members: u32,
+    pub open_regions: u32,
+    pub current: RegionId,
+    pub ids: u32,
+    pub docs: u32,
+    pub names: u32,
+    pub used: u32,
+    pub charge: u32,
+}

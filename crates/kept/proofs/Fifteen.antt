@@ -13,7 +13,8 @@ use Rattle.definition.specs.Event.{Event, kind, readEvent, inForm, keysDiffer}
 use Rattle.definition.specs.Look.{Look, look, textAfter}
 use Rattle.definition.specs.Change.{Change, Outcome, done, refuse, entered}
 use Rattle.definition.specs.Rules.{withinLimits}
-use Rattle.definition.specs.Reader.{startOf, endOf, Question, firstNo, questions, Verdict, accept, reject, onDone, started, finished, handled, limited, decided, Reply, settled, replyTo, eventReply, Lent, Position, event, reading, refused, answerOf, answerTo, call, exists, storeOf, longEnough, inOrder}
+use Rattle.definition.specs.declared.Position.{Position}
+use Rattle.definition.specs.Reader.{startOf, endOf, Question, firstNo, questions, Verdict, accept, reject, onDone, started, finished, handled, limited, decided, Reply, settled, replyTo, eventReply, Lent, event, reading, refused, answerOf, answerTo, call, exists, storeOf, longEnough, inOrder}
 use Rattle.kept.specs.Statements.{Past, FifteenExact, AtMostSixteen}
 use Rattle.kept.proofs.LowOutcomes.{Low, other, low-start, low-end}
 use Rattle.kept.proofs.Base.{true-is-false}

@@ -10,7 +10,8 @@ use native.Mathlib.Omega.{arith}
 use Rattle.definition.specs.declared.Limits.{Limits}
 use Rattle.definition.specs.Rows.{Table, Numbers, tableOf, Store}
 use Rattle.definition.specs.Rules.{allWithin, chartLimits, openLimits, tableLimits, countersWithin, keepsRules}
-use Rattle.definition.specs.Reader.{Lent, Position, counts, taken, storeOf, rowsIn, positionOf, over, overAll, lentAfter, allLong, longEnough, allAtMost, inOrder, Call, event, reading, Reply, eventReply, Answer, refused, answerOf, answerTo, call, exists}
+use Rattle.definition.specs.declared.Position.{Position}
+use Rattle.definition.specs.Reader.{Lent, counts, taken, storeOf, rowsIn, positionOf, over, overAll, lentAfter, allLong, longEnough, allAtMost, inOrder, Call, event, reading, Reply, eventReply, Answer, refused, answerOf, answerTo, call, exists}
 use Rattle.kept.specs.Statements.{StaysInOrder}
 use Rattle.kept.proofs.Base.{le-of, leb-of, and-left, and-right, and-both, false-is-true}
 use Rattle.kept.proofs.Okay.{OkOf}

@@ -11,7 +11,8 @@ use Rattle.definition.specs.Event.{Event, readEvent, inForm, keysDiffer}
 use Rattle.definition.specs.Look.{look, textAfter}
 use Rattle.definition.specs.Change.{entered}
 use Rattle.definition.specs.Rules.{withinLimits}
-use Rattle.definition.specs.Reader.{Verdict, accept, reject, Reply, settled, replyTo, eventReply, limited, decided, handled, firstNo, questions, Lent, Position, Call, event, reading, refused, answerOf, answerTo, call, exists, storeOf, longEnough, inOrder}
+use Rattle.definition.specs.declared.Position.{Position}
+use Rattle.definition.specs.Reader.{Verdict, accept, reject, Reply, settled, replyTo, eventReply, limited, decided, handled, firstNo, questions, Lent, Call, event, reading, refused, answerOf, answerTo, call, exists, storeOf, longEnough, inOrder}
 use Rattle.kept.specs.Statements.{RefusalKeeps, Untouched, CallRefused, ReadingKeeps, AcceptedWithin}
 
 zero-is-suc : {X : Type 0} (k : ℕ) → _≡_ {A = ℕ} 0 (suc k) → X

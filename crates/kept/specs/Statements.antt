@@ -9,7 +9,8 @@ use Rattle.definition.specs.Rows.{Numbers, Store}
 use Rattle.definition.specs.Look.{Look}
 use Rattle.definition.specs.Change.{entered}
 use Rattle.definition.specs.Rules.{withinLimits, keepsRules}
-use Rattle.definition.specs.Reader.{accept, reject, handled, decided, eventReply, Lent, Position, Call, reading, Answer, call, noRow, longEnough, inOrder}
+use Rattle.definition.specs.declared.Position.{Position}
+use Rattle.definition.specs.Reader.{accept, reject, handled, decided, eventReply, Lent, Call, reading, Answer, call, noRow, longEnough, inOrder}
 
 -- An accepted event keeps the rules; counters and text charge cover all rows and text. An open name's row has 64 bytes.
 abbrev pub RulesKept : Type 0

@@ -1,6 +1,6 @@
 -- Numbers of states, transitions and regions are three types, here as in the code.
 use Prim.Native.Nat.{ℕ, _-_}
-use Rattle.nesting.specs.declared.StateId.{StateId}
+use Rattle.definition.specs.declared.StateId.{StateId}
 
 -- The place of a state's row, from 0.
 abbrev pub rowOf : StateId → ℕ

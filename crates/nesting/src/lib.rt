@@ -1,4 +1,5 @@
 // Elements and keys by number, and which element may stand in which.
+use definition::StateId;
 use text::same_at;
 ghost use mathlib.Core.Path.{_≡_};
 ghost use mathlib.Core.List.{[], map};
@@ -101,13 +102,6 @@ const NESTING: [[u8; 7]; 25] = [
     [17, 18, 16, 25, 24, 11, 0],
     [1, 16, 18, 17, 24, 25, 11],
 ];
-
-// Numbers of rows. One given for another does not compile.
-pub struct StateId(pub u32);
-
-pub struct TransitionId(pub u32);
-
-pub struct RegionId(pub u32);
 
 fn wide(x: u32) -> usize
     ensures { λ r. ⌜ r ≡ x ⌝ }
