@@ -44,8 +44,8 @@ param = "event=open\nname=param\nkey=name\nvalue=p\n"
 abbrev content : String
 content = "event=whole\nname=content\ntext=t\n"
 
--- "The current state is 0 in: data, initial, transition, invoke, donedata, send, param or content of invoke or donedata, the end of state, onentry, onexit,
--- finalize. The root is 0 at scxml's end; the current transition is 0 at transition's end."
+-- The current state is 0 in: data, initial, transition, invoke, donedata, send, param or content of invoke or donedata, the end of state, onentry, onexit,
+-- finalize. The root is 0 at scxml's end; the current transition is 0 at transition's end (docs/DECISIONS.md, 54).
 unfoldable pub withoutState : List Case
 unfolding alteredBy good str
 withoutState =
@@ -71,7 +71,7 @@ withoutState =
     ∷ answers 0 (inside (tag .transition) 1 1 4) "event=end\nname=transition\n" (number (table .transitions) 1 (transition .content) 4 ∷ [])
     ∷ []
 
--- "The current region is 0 when an entry is added or a region is closed, in the recursion too."
+-- The current region is 0 when an entry is added or a region is closed, in the recursion too.
 unfoldable pub withoutRegion : List Case
 unfolding alteredBy good str
 withoutRegion =
@@ -99,8 +99,8 @@ withoutRegion =
     ∷ error (inside (tag .if) 1 1 4 ++ field (position .openRegions) 1 ∷ cell (table .openRegions) 1 (openRegion .tag) (tag .foreach) ∷ cell (table .openRegions) 1 (openRegion .region) 0 ∷ []) "event=open\nname=else\n"
     ∷ []
 
--- "param in send: the region is missing or empty, or its last entry is no send. content in send: the region is empty or its last entry is no send. The
--- state has no invoke at param, content or finalize's end; donedata absent at its param or content."
+-- param in send: the region is missing or empty, or its last entry is no send. content in send: the region is empty or its last entry is no send. The
+-- state has no invoke at param, content or finalize's end; donedata absent at its param or content.
 unfoldable pub withoutOwner : List Case
 unfolding alteredBy good str
 withoutOwner =
@@ -118,8 +118,8 @@ withoutOwner =
     ∷ error (inside (tag .donedata) 1 0 4) content
     ∷ []
 
--- "No errors, and answered on: content in send with current region 0 (skipped), log without expr in region 0, state or history with current state 0 (parent
--- 0), the end of a transition over leftover open regions (all are popped, the current region is 0 then, content is the innermost)."
+-- No errors, and answered on (docs/DECISIONS.md, 55): content in send with current region 0 (skipped), log without expr in region 0, state or history with current state 0 (parent
+-- 0), the end of a transition over leftover open regions (all are popped, the current region is 0 then, content is the innermost).
 unfoldable pub answeredOn : List Case
 unfolding alteredBy good str
 answeredOn =

@@ -1,5 +1,5 @@
--- Questions 1 and 2 from lent stores. "One lent store for each clause of question 2 that gets 2 by that clause alone, and a good one with junk beyond its
--- rows that gets 0." Each row alters one thing in the good store, and breaks the clauses named and no other.
+-- Questions 1 and 2 from lent stores. A lent store for each clause of question 2 that gets 2 by that clause alone, and a good one with junk beyond its
+-- rows that gets 0. Each row alters one thing in the good store, and breaks the clauses named and no other.
 use Prim.Native.Nat.{ℕ, suc}
 use mathlib.Core.List.{List, [], _∷_, _++_, map}
 use lib.ListN.{replicate}

@@ -200,6 +200,7 @@ startElseIf n l = closing (tag .if) (nothing n) (λ c. branch n c (elseIfBranch 
 
 -- ---- invoke
 
+-- "Absent autoforward is false."
 unfoldable pub startInvoke : Numbers → Look → Outcome
 unfolding unlessZero nothing adding addWords currentState codeFor wordsOf
 startInvoke n l =

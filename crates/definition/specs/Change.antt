@@ -82,7 +82,7 @@ unfoldable pub altering : Which → ℕ → List Put → Change → Change
 unfolding also
 altering w i ps c = also (alter w i ps) c
 
--- "One counter from 1 numbers transitions and regions together; a second from 1 gives doc ids."
+-- "One counter from 1 numbers transitions and regions together, in the Rust's order; a second from 1 gives doc ids."
 unfoldable pub nextId : Change → ℕ
 nextId c = suc (c .ids)
 

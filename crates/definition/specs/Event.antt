@@ -31,7 +31,7 @@ after [] l = some l
 after (h ∷ hs) [] = none
 after (h ∷ hs) (b ∷ bs) = elim (eqb h b) [ true ↦ after hs bs | false ↦ none ]
 
--- "`event=`; `name=`; then pairs `key=`, `value=`; `text=`": a line by its head, and what follows.
+-- A line by its head (`event=`, `name=`, `key=`, `value=`, `text=`), and what follows.
 pub data Line : Type 0 where
   event name key value text : List ℕ → Line
   junk : Line
@@ -169,7 +169,7 @@ unfoldable pub noAttributes : List Attribute → Bool
 noAttributes [] = true
 noAttributes (a ∷ ats) = false
 
--- "`text=` exactly for `whole`"; "`end` has no pairs"; "`data`, `script`, `content`, `assign` come as `whole` or `empty`, never `open`, and nothing
+-- "`text=` last and exactly for `whole`"; "`end` has no pairs"; "`data`, `script`, `content`, `assign` come as `whole` or `empty`, never `open`, and nothing
 -- else is `whole`."
 unfoldable pub kindFits : ℕ → Event → Bool
 unfolding hasText noAttributes holdsText
@@ -179,6 +179,7 @@ kindFits (suc (suc zero)) e = hasText (e .text) && holdsText (tagOf (e .name))
 kindFits (suc (suc (suc zero))) e = not (hasText (e .text)) && noAttributes (e .attributes)
 kindFits (suc (suc (suc (suc k)))) e = false
 
+-- "Lengths are counted unescaped": names, keys, values and texts are read before they are measured.
 unfoldable pub between : ℕ → ℕ → List ℕ → Bool
 between low high v = leb low (length v) && leb (length v) high
 

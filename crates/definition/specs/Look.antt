@@ -50,7 +50,7 @@ unfoldable pub payload : List Load → List ℕ
 payload [] = []
 payload (i ∷ is) = i .bytes ++ payload is
 
--- "Text charge: the lengths of all values, texts (assign: twice and two more) and generated names."
+-- THE TEXT CHARGE of an event: "the lengths of all values, texts (assign: twice and two more) and generated names." Here the text's part of it.
 unfoldable pub textCharge : ℕ → Option (List ℕ) → ℕ
 textCharge g none = 0
 textCharge g (some v) = elim (eqb g (tag .assign)) [ true ↦ length v + length v + 2 | false ↦ length v ]

@@ -433,7 +433,7 @@ unfoldable pub stream : Limits → Lent → Position → List ℕ → Streamed
 unfolding streamed eventsOf
 stream L x p t = streamed L x p 0 (eventsOf t)
 
--- "The empty chart … in slices of zeros."
+-- "The empty chart has no row and no text, nothing open, no current region, nothing drawn from a counter, text charge 0."
 unfoldable pub start : Position
 start =
     record {

@@ -46,7 +46,7 @@ childOf n (suc p) l c =
     let c₁ : Change = c ▷ altering (numbers (table .states)) (ownState l) (state .parent ≔ suc p ∷ []) in
     elim (isChild n (suc p) (ownState l)) [ true ↦ c₁ | false ↦ c₁ ▷ addMember (list .children) (suc p) (ownState l) ]
 
--- "Order: state, then its `initial` transition, then the state's doc id." The state's row is there already; its element is open in it.
+-- "Order: state, then its `initial` transition (internal, doc id, targets made as needed), then the state's doc id." The state's row is there already; its element is open in it.
 unfoldable pub declared : Numbers → ℕ → Look → Change
 unfolding nothing initialTransition ownDoc childOf inState ownState
 declared n parent l = nothing n ▷ initialTransition l ▷ ownDoc l ▷ childOf n parent l ▷ inState (ownState l)
@@ -132,7 +132,8 @@ unfoldable pub startInitial : Numbers → Look → Outcome
 unfolding unlessZero currentState unlessInitial nothing
 startInitial n l = unlessZero (currentState n) (unlessInitial n (done (nothing n)))
 
--- "A second donedata in a final begins empty; the parameters of the first leave the chart but keep their numbers and still count": those below the mark.
+-- "A second donedata in a final begins empty; the parameters of the first leave the chart (reading one gives 16) but keep their numbers and
+-- still count": those below the mark.
 unfoldable pub startDonedata : Numbers → Look → Outcome
 unfolding unlessZero currentState nothing altering
 startDonedata n l =

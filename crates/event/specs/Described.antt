@@ -43,7 +43,7 @@ descriptionOf w =
 
 -- ---- question 3: "Is the event in form and within its own limits, bytes up to 127?"
 
--- "`text=` exactly for `whole`"; "`end` has no pairs"; "`data`, `script`, `content`, `assign` come as `whole` or `empty`, never `open`, and nothing else is
+-- "`text=` last and exactly for `whole`"; "`end` has no pairs"; "`data`, `script`, `content`, `assign` come as `whole` or `empty`, never `open`, and nothing else is
 -- `whole`." `next` is 4 after a text and 2 without one.
 unfoldable pub shapeFits : ℕ → ℕ → ℕ → Bool → Bool
 shapeFits zero next count holds = eqb next 2 && not holds
@@ -91,7 +91,7 @@ unfoldable pub described : List ℕ → Described
 unfolding finished walked
 described raw = finished raw (walked raw)
 
--- "Text charge, ..: the lengths of all values": unescaped, those of unknown keys too.
+-- "The lengths of all values" in the text charge: unescaped, those of unknown keys too.
 unfoldable pub valuesSize : List Pair → ℕ
 valuesSize [] = 0
 valuesSize (p ∷ ps) = p .value .size + valuesSize ps

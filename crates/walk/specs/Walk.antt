@@ -41,7 +41,7 @@ found low high at x =
       | false ↦ record { ok = false; part = partAt 0 0 0 }
     ]
 
--- "Element name 1 to 64 bytes; .. key 1 to 64; value 1,024; text 4,096."
+-- Parts within their limits: "element name 1 to 64 bytes", "key 1 to 64; value 1,024; text 4,096".
 unfoldable pub nameFits : List ℕ → Bool
 unfolding fits scanned
 nameFits n = fits 1 (limits01 .name) (scanned n)
