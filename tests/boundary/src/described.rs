@@ -31,36 +31,22 @@ pub struct Attribute {
     pub value_size: u16,
 }
 
-/// Counts over a stream's events.
-#[repr(C)]
-#[derive(Debug, Clone, Copy, PartialEq, Eq, Default)]
-pub struct Tally {
-    pub events: u64,
-    pub form: u64,
-    pub keys: u64,
-    pub pairs: u64,
-    pub bytes: u64,
-}
-
 extern "C" {
     fn event_head(raw: *const u8, length: usize) -> Head;
     fn event_attribute(raw: *const u8, length: usize, place: usize) -> Attribute;
-    fn event_tally(stream: *const u8, length: usize, buffer: *mut u8, room: usize) -> Tally;
+}
+
+pub fn head(raw: &[u8]) -> Head {
+    // The function reads `length` bytes from `raw` and keeps nothing.
+    unsafe { event_head(raw.as_ptr(), raw.len()) }
 }
 
 /// An event's description, with every attribute and one place past the last.
 pub fn described(raw: &[u8]) -> (Head, Vec<Attribute>) {
-    // Both functions read `length` bytes from `raw` and keep nothing.
-    let head = unsafe { event_head(raw.as_ptr(), raw.len()) };
+    let head = head(raw);
+    // As above.
     let attribute = |place| unsafe { event_attribute(raw.as_ptr(), raw.len(), place) };
     (head, (0..=head.count.min(16)).map(attribute).collect())
-}
-
-/// Every event of a stream taken apart, and its values and text unescaped, one over another.
-pub fn tally(stream: &[u8]) -> Tally {
-    let mut buffer = [0; 4_096];
-    // The function reads `length` bytes from `stream`, writes at most `room` bytes into the buffer, and keeps nothing.
-    unsafe { event_tally(stream.as_ptr(), stream.len(), buffer.as_mut_ptr(), buffer.len()) }
 }
 
 /// Elements in the order of their numbers, from 1.
@@ -181,22 +167,4 @@ pub fn expected(raw: &[u8]) -> (Head, Vec<Attribute>) {
         text_size: event.text.map_or(0, |text| small(text.len())),
     };
     (head, attributes)
-}
-
-/// The same as `tally`, by the judge's parser.
-pub fn expected_tally(stream: &[u8]) -> Tally {
-    let mut tally = Tally::default();
-    for raw in event::split(stream) {
-        tally.events += 1;
-        match event::parse(raw) {
-            Ok(event) => {
-                tally.pairs += event.pairs.len() as u64;
-                tally.bytes += event.pairs.iter().map(|(_, value)| value.len() as u64).sum::<u64>();
-                tally.bytes += event.text.map_or(0, |text| text.len() as u64);
-            }
-            Err(Fault::Form(_)) => tally.form += 1,
-            Err(Fault::Keys) => tally.keys += 1,
-        }
-    }
-    tally
 }

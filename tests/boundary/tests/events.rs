@@ -1,20 +1,12 @@
-//! The proved leaves against the judge's own parser, through the C boundary.
+//! What `describe` tells of an event against the judge's own parser, through the C boundary.
 
-use boundary::described::{self, described, expected_tally, tally};
-use boundary::{counts, expected};
+use boundary::described::{self, described};
+use boundary::recorded;
 use rufsm::event;
-use rufsm::frames;
 use rufsm::generate::{stream, Profile};
-use std::path::Path;
 
-fn repository() -> &'static Path {
-    Path::new(concat!(env!("CARGO_MANIFEST_DIR"), "/../.."))
-}
-
-/// The leaves' counts, the tally, and each event's description field by field.
+/// Each event's description, field by field.
 fn check(stream: &[u8], what: &str) {
-    assert_eq!(counts(stream), expected(stream), "{what}");
-    assert_eq!(tally(stream), expected_tally(stream), "{what}");
     for raw in event::split(stream) {
         assert_eq!(described(raw), described::expected(raw), "{what}: {:?}", String::from_utf8_lossy(raw));
     }
@@ -22,8 +14,7 @@ fn check(stream: &[u8], what: &str) {
 
 #[test]
 fn recorded_streams() {
-    let file = std::fs::read(repository().join("tests/answers/streams.txt")).expect("the recorded streams");
-    let streams = frames::parse(&file).expect("frames");
+    let streams = recorded();
     assert!(streams.len() >= 400);
     for (name, body) in &streams {
         check(body, &format!("stream {name}"));
@@ -36,53 +27,6 @@ fn random_streams() {
         let bytes = stream(5, index, Profile::Ordinary);
         check(&bytes, &format!("stream 5-{index}"));
     }
-}
-
-/// As many recorded streams as the program's buffer holds.
-fn input() -> Vec<u8> {
-    let file = std::fs::read(repository().join("tests/answers/streams.txt")).expect("the recorded streams");
-    let mut joined = Vec::new();
-    for (_, body) in frames::parse(&file).expect("frames") {
-        if joined.len() + body.len() > 65_536 {
-            break;
-        }
-        joined.extend(body);
-    }
-    joined
-}
-
-/// What the program `leafcount` reads and must print, made from the recorded streams by other code than the program's. With LEAFCOUNT_WRITE in the
-/// environment the two files are written anew.
-#[test]
-fn stored_input_and_output() {
-    let folder = repository().join("crates/leafcount");
-    let (c, t) = (expected(&input()), expected_tally(&input()));
-    let counts =
-        [c.events, c.lines, c.illegible, c.bytes, c.known, c.keys, c.names, c.words, t.form, t.keys, t.pairs, t.bytes];
-    let labels = [
-        "events",
-        "lines",
-        "illegible",
-        "bytes",
-        "known",
-        "keys",
-        "names",
-        "words",
-        "out of form",
-        "repeated keys",
-        "attributes",
-        "values and texts",
-    ];
-    let printed: String = labels.iter().zip(counts).map(|(label, count)| format!("{label}={count}\n")).collect();
-    if std::env::var_os("LEAFCOUNT_WRITE").is_some() {
-        std::fs::write(folder.join("stdin"), input()).expect("stdin");
-        std::fs::write(folder.join("stdout"), &printed).expect("stdout");
-    }
-    assert!(
-        std::fs::read(folder.join("stdin")).expect("stdin") == input(),
-        "crates/leafcount/stdin is not the recorded streams"
-    );
-    assert_eq!(std::fs::read_to_string(folder.join("stdout")).expect("stdout"), printed);
 }
 
 /// Every stream cut short at every byte: most are out of form.
