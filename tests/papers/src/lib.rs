@@ -1,0 +1,98 @@
+//! What is written beside the code, held to what it speaks of: quotations of document 01, the tables of docs, the edits that must fail.
+
+use std::fs;
+use std::path::{Path, PathBuf};
+
+pub fn repository() -> PathBuf {
+    Path::new(env!("CARGO_MANIFEST_DIR")).join("../..")
+}
+
+pub fn read(path: &Path) -> String {
+    fs::read_to_string(path).unwrap_or_else(|error| panic!("{}: {error}", path.display()))
+}
+
+/// The files below a folder, in order of their paths.
+pub fn files(folder: &Path) -> Vec<PathBuf> {
+    let Ok(entries) = fs::read_dir(folder) else { return Vec::new() };
+    let mut paths: Vec<PathBuf> = entries.map(|entry| entry.expect("an entry").path()).collect();
+    paths.sort();
+    paths.into_iter().flat_map(|path| if path.is_dir() { files(&path) } else { vec![path] }).collect()
+}
+
+/// The names in a folder that end so, without that end.
+pub fn stems(folder: &str, end: &str) -> Vec<String> {
+    let paths = files(&repository().join(folder));
+    let names = paths.iter().filter_map(|path| path.file_name()?.to_str()?.strip_suffix(end).map(str::to_string));
+    names.collect()
+}
+
+pub fn has_extension(path: &Path, extension: &str) -> bool {
+    path.extension().is_some_and(|other| other == extension)
+}
+
+/// A text on one line, its words parted by single spaces.
+pub fn one_line(text: &str) -> String {
+    text.split_whitespace().collect::<Vec<_>>().join(" ")
+}
+
+/// The comments of a source file, each run of comment lines as one line.
+pub fn comments(source: &str) -> Vec<String> {
+    let mut runs = vec![String::new()];
+    for line in source.lines() {
+        let line = line.trim_start();
+        let comment = line.strip_prefix("--").or_else(|| line.strip_prefix("//"));
+        match comment {
+            Some(text) => runs.last_mut().expect("a run").push_str(&format!("{} ", text.trim_start_matches('/'))),
+            None => runs.push(String::new()),
+        }
+    }
+    runs.iter().map(|run| one_line(run)).filter(|run| !run.is_empty()).collect()
+}
+
+/// What stands between double quotes; a quote inside backticks is none.
+pub fn quotations(comment: &str) -> Vec<String> {
+    let plain = comment.replace("`\"`", "`\u{1}`").replace("`\\\"`", "`\\\u{1}`");
+    plain.split('"').skip(1).step_by(2).map(|text| text.replace('\u{1}', "\"")).collect()
+}
+
+/// The words of a text that could be names: runs of letters, digits, `_` and `·`, and antt's other letters. A field, behind its point, is none.
+pub fn names(text: &str) -> Vec<&str> {
+    let inside = |c: char| c.is_alphanumeric() || matches!(c, '_' | '·' | '′' | '.');
+    let words = text.split(|c: char| !inside(c)).filter_map(|word| word.split('.').next());
+    words.filter(|word| word.chars().next().is_some_and(char::is_alphabetic)).collect()
+}
+
+/// One replacement of an edit that must fail.
+pub struct Replacement {
+    pub file: String,
+    pub old: String,
+    pub new: String,
+}
+
+pub fn replacements(edit: &str) -> Vec<Replacement> {
+    let (mut file, mut old, mut all) = (String::new(), String::new(), Vec::new());
+    for line in edit.lines() {
+        if let Some(text) = line.strip_prefix("file: ") {
+            file = text.to_string();
+        } else if let Some(text) = line.strip_prefix("old: ") {
+            old = text.to_string();
+        } else if let Some(text) = line.strip_prefix("new:") {
+            let new = text.strip_prefix(' ').unwrap_or(text).to_string();
+            all.push(Replacement { file: file.clone(), old: old.clone(), new });
+        }
+    }
+    all
+}
+
+/// How many operations a piece of Rattle has.
+pub fn operations(code: &str) -> usize {
+    let operators =
+        ["<<", ">>", "<=", ">=", "==", "!=", "&&", "||", "+", "-", "*", "/", "%", "&", "|", "^", "<", ">", "!"];
+    let (mut rest, mut count) = (code, 0);
+    while let Some(next) = rest.chars().next() {
+        let operator = operators.iter().find(|operator| rest.starts_with(**operator));
+        count += usize::from(operator.is_some());
+        rest = &rest[operator.map_or(next.len_utf8(), |operator| operator.len())..];
+    }
+    count + code.matches('(').count()
+}
