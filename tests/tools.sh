@@ -23,6 +23,6 @@ find_reference() {
 }
 
 build_judge() {
-    (cd tests/rufsm && cargo build --release --offline --quiet)
+    cargo build --release --quiet -p rufsm
     [ -x "$judge" ] || red "cargo built no $judge"
 }

@@ -1,5 +1,5 @@
--- DEMAND 3, the statement. "One theorem over whole lists of calls from the empty chart: rename state names, replace cond/expr/array texts by others of equal
--- length, and every answer, counter, open element and number stays the same, names renamed." Document 01, 'What contracts say'.
+-- DEMAND 3, the statement: one theorem over whole lists of calls from the empty chart. Rename state names, replace the texts of cond, expr and array by others
+-- of equal length, and every answer, counter, open element and number stays the same, names renamed. Document 01, 'What contracts say'.
 use Prim.Native.Nat.{ℕ, suc, _<_}
 use mathlib.Core.Path.{_≡_}
 use mathlib.Core.Bool.{Bool, true, false}
@@ -17,7 +17,7 @@ use Rattle.definition.specs.Reader.{Call, event, reading, Answer, Lent, 
 
 -- ---- renamings
 
--- "One-to-one; possible names are the strings of bytes 0 to 127." It keeps lengths, takes words to words, and is the identity on names that begin `__id` or
+-- One-to-one. "Possible names are the strings of bytes 0 to 127." It keeps lengths, takes words to words, and is the identity on names that begin `__id` or
 -- are not one word.
 pub record Renaming (ρ : List ℕ → List ℕ) : Type 0 where
   pub allowed : (a : List ℕ) → T (allAllowed a) → T (allAllowed (ρ a))
@@ -149,7 +149,7 @@ module _ (ρ : List ℕ → List ℕ) where
   kindAsked (event raw) = 0
   kindAsked (reading t i) = t
 
-  -- "An answer is the number. Rows and charts are compared by their numbers and by the bytes of each name and text."
+  -- "An answer is the number." "Rows and charts are compared by their numbers and by the bytes of each name and text."
   pub record AnswerRel (c : Call) (a b : Answer) : Type 0 where
     pub number : b .number ≡ a .number
     pub position : b .position ≡ a .position
@@ -163,8 +163,8 @@ module _ (ρ : List ℕ → List ℕ) where
     stop : AnswersRel [] [] []
     next : {c : Call} {cs : List Call} {a b : Answer} {as₁ bs : List Answer} → AnswerRel c a b → AnswersRel cs as₁ bs → AnswersRel (c ∷ cs) (a ∷ as₁) (b ∷ bs)
 
-  -- "Demand 3 is one claim about a whole list and its renamed partner. Both lists start from the empty chart, in slices of zeros of the same lengths, too short
-  -- ones included."
+  -- "Demand 3 is one claim about a whole list and its renamed partner." "Both lists start from it, in slices of zeros of the same lengths, too short ones
+  -- included": from the empty chart.
   abbrev pub Demand3 : Type 0
   Demand3 = Renaming ρ → (L : Limits) (ks : List ℕ) (k : ℕ) (cs ds : List Call) → CallsRel cs ds
       → AnswersRel cs (run L (zeros ks k) start cs) (run L (zeros ks k) start ds)

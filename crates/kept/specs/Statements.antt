@@ -17,7 +17,7 @@ abbrev pub RulesKept : Type 0
 RulesKept =
     (L : Limits) (s : Store) (raw : List ℕ) → leb (L .name) 64 ≡ true → keepsRules L s ≡ true → eventReply L s raw .number ≡ 0 → keepsRules L (eventReply L s raw .store) ≡ true
 
--- Demand 1: "every event and every reading of a row, however malformed, gets 0 or a number 1 to 16."
+-- Demand 1: every event and every reading of a row, however malformed, gets 0 or a number 1 to 16.
 abbrev pub AtMostSixteen : Type 0
 AtMostSixteen = (L : Limits) (x : Lent) (p : Position) (c : Call) → call L x p c .number ≤ 16
 
