@@ -20,3 +20,4 @@ pub mod Demand3
 pub mod EventLength
 pub mod Swap
 pub mod Partners
+pub mod Uses

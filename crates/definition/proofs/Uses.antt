@@ -1,0 +1,84 @@
+-- Demand 3 put to use: whoever weakens a field of its conclusion loses one of these.
+use Prim.Native.Nat.{ℕ, zero, suc, _<_}
+use mathlib.Core.Path.{_≡_, refl, sym, ap, ap₂, _∙_}
+use mathlib.Core.Option.{some}
+use mathlib.Core.List.{List, [], _∷_, map}
+use lib.ListN.{length, getD, take}
+use native.Mathlib.Omega.{arith}
+use Rattle.definition.specs.Elements.{Role, name, masked, plain}
+use Rattle.definition.specs.Rows.{Row, Table, table, shown, state, transition, entry, member, cellAt, textAt}
+use Rattle.definition.specs.declared.Position.{Position}
+use Rattle.definition.specs.Reader.{Call, Answer, counts}
+use Rattle.definition.specs.Renaming.{Moved, roleAt, shownRole, AnswerRel, AnswersRel}
+use Rattle.definition.specs.Uses.{each, shownName, Alike, NumbersEqual, PositionsEqual, TablesEqual, TextsAsLong, RowsEqual, StateNamesRenamed, SendIdsEqual, WordsEqual, ConditionsAsLong, ArraysAsLong, ShownNamesRenamed}
+use Rattle.definition.proofs.Demand3.{demand3}
+
+-- ---- from one call to the list
+
+parts : {X : Type 0} (ρ : List ℕ → List ℕ) (f g : Answer → X) → ((c : Call) (a b : Answer) → AnswerRel ρ c a b → g b ≡ f a)
+    → {cs : List Call} {as₁ bs : List Answer} → AnswersRel ρ cs as₁ bs → map g bs ≡ map f as₁
+parts ρ f g h AnswersRel.stop = refl
+parts ρ f g h (AnswersRel.next {c = c} {a = a} {b = b} r k) = ap₂ _∷_ (h c a b r) (parts ρ f g h k)
+
+alike : {X : Type 0} (ρ : List ℕ → List ℕ) (f g : Answer → X) → ((c : Call) (a b : Answer) → AnswerRel ρ c a b → g b ≡ f a) → Alike ρ f g
+alike ρ f g h N L ks k cs ds m = parts ρ f g h (demand3 ρ N L ks k cs ds m)
+
+-- ---- numbers
+
+pub numbers-equal : NumbersEqual
+numbers-equal ρ = alike ρ _ _ (λ c a b h. h .number)
+
+pub positions-equal : PositionsEqual
+positions-equal ρ = alike ρ _ _ (λ c a b h. h .position)
+
+pub tables-equal : TablesEqual
+tables-equal ρ = alike ρ _ _ (λ c a b h. h .tables)
+
+pub texts-as-long : TextsAsLong
+texts-as-long ρ = alike ρ _ _ (λ c a b h. h .size)
+
+pub rows-equal : RowsEqual
+rows-equal ρ = alike ρ _ _ (λ c a b h. h .row)
+
+-- ---- texts
+
+column : {X : Type 0} (f g : Row → X) (n : ℕ) (rs : Table) → ((i : ℕ) → i < n → g (getD rs i []) ≡ f (getD rs i [])) → map g (take n rs) ≡ map f (take n rs)
+column f g zero rs h = refl
+column f g (suc n) [] h = refl
+column f g (suc n) (r ∷ rs) h = ap₂ _∷_ (h 0 (omega arith)) (column f g n rs (λ i l. h (suc i) (omega (arith, l))))
+
+-- Of a column with a role: what f makes of its texts here is what g makes of the partner's.
+texts : {X : Type 0} (ρ : List ℕ → List ℕ) (f g : List ℕ → X) (t c : ℕ) (q : Role) → roleAt t c ≡ some q → ((v w : List ℕ) → Moved ρ q v w → g w ≡ f v)
+    → Alike ρ (each f t c) (each g t c)
+unfolding each
+texts ρ f g t c q e h =
+    alike ρ (each f t c) (each g t c)
+    (λ d a b r.
+    ap₂ (λ (p : Position) (ts : List Table). map (λ (x : Row). g (textAt (b .lent .text) (cellAt x c))) (take (getD (counts p) t 0) (getD ts t []))) (r .position) (r .tables)
+    ∙ column _ _ (getD (counts (a .position)) t 0) (getD (a .lent .tables) t []) (λ i l. h _ _ (r .texts t i l c q e)))
+
+pub state-names-renamed : StateNamesRenamed
+unfolding roleAt
+state-names-renamed ρ = texts ρ ρ _ (table .states) (state .name) name refl (λ v w e. e)
+
+pub send-ids-equal : SendIdsEqual
+unfolding roleAt
+send-ids-equal ρ = texts ρ _ _ (table .entries) (entry .id) plain refl (λ v w e. e)
+
+pub words-equal : WordsEqual
+unfolding roleAt
+words-equal ρ = texts ρ _ _ (table .members) (member .word) plain refl (λ v w e. e)
+
+pub conditions-as-long : ConditionsAsLong
+unfolding roleAt
+conditions-as-long ρ = texts ρ length length (table .transitions) (transition .cond) masked refl (λ v w e. e)
+
+pub arrays-as-long : ArraysAsLong
+unfolding roleAt
+arrays-as-long ρ = texts ρ length length (table .entries) (entry .array) masked refl (λ v w e. e)
+
+pub shown-names-renamed : ShownNamesRenamed
+unfolding shownName shownRole
+shown-names-renamed ρ =
+    alike ρ (λ (a : Answer). ρ (shownName a)) shownName
+    (λ c a b h. ap (λ (r : Row). textAt (b .lent .text) (cellAt r (shown .stateName))) (h .row) ∙ h .shown (shown .stateName) name refl)
