@@ -1,6 +1,6 @@
 -- Demand 3 put to use: whoever weakens a field of its conclusion loses one of these.
 use Prim.Native.Nat.{ℕ, zero, suc, _<_}
-use mathlib.Core.Path.{_≡_, refl, sym, ap, ap₂, _∙_}
+use mathlib.Core.Path.{_≡_, refl, ap, ap₂, _∙_}
 use mathlib.Core.Option.{some}
 use mathlib.Core.List.{List, [], _∷_, map}
 use lib.ListN.{length, getD, take}
@@ -10,7 +10,7 @@ use Rattle.definition.specs.Rows.{Row, Table, table, shown, state, trans
 use Rattle.definition.specs.declared.Position.{Position}
 use Rattle.definition.specs.Reader.{Call, Answer, counts}
 use Rattle.definition.specs.Renaming.{Moved, roleAt, shownRole, AnswerRel, AnswersRel}
-use Rattle.definition.specs.Uses.{each, shownName, Alike, NumbersEqual, PositionsEqual, TablesEqual, TextsAsLong, RowsEqual, StateNamesRenamed, SendIdsEqual, WordsEqual, ConditionsAsLong, ArraysAsLong, ShownNamesRenamed}
+use Rattle.definition.specs.Uses.{each, shownName, Alike, Equal, NumbersEqual, PositionsEqual, TablesEqual, TextsAsLong, RowsEqual, StateNamesRenamed, SendIdsEqual, WordsEqual, ConditionsAsLong, ArraysAsLong, ShownNamesRenamed}
 use Rattle.definition.proofs.Demand3.{demand3}
 
 -- ---- from one call to the list
@@ -23,22 +23,25 @@ parts ρ f g h (AnswersRel.next {c = c} {a = a} {b = b} r k) = ap₂ _∷_ (h c 
 alike : {X : Type 0} (ρ : List ℕ → List ℕ) (f g : Answer → X) → ((c : Call) (a b : Answer) → AnswerRel ρ c a b → g b ≡ f a) → Alike ρ f g
 alike ρ f g h N L ks k cs ds m = parts ρ f g h (demand3 ρ N L ks k cs ds m)
 
+equal : {X : Type 0} (f : Answer → X) → ((ρ : List ℕ → List ℕ) (c : Call) (a b : Answer) → AnswerRel ρ c a b → f b ≡ f a) → Equal f
+equal f h ρ = alike ρ f f (h ρ)
+
 -- ---- numbers
 
 pub numbers-equal : NumbersEqual
-numbers-equal ρ = alike ρ _ _ (λ c a b h. h .number)
+numbers-equal = equal (λ (a : Answer). a .number) (λ ρ c a b h. h .number)
 
 pub positions-equal : PositionsEqual
-positions-equal ρ = alike ρ _ _ (λ c a b h. h .position)
+positions-equal = equal (λ (a : Answer). a .position) (λ ρ c a b h. h .position)
 
 pub tables-equal : TablesEqual
-tables-equal ρ = alike ρ _ _ (λ c a b h. h .tables)
+tables-equal = equal (λ (a : Answer). a .lent .tables) (λ ρ c a b h. h .tables)
 
 pub texts-as-long : TextsAsLong
-texts-as-long ρ = alike ρ _ _ (λ c a b h. h .size)
+texts-as-long = equal (λ (a : Answer). length (a .lent .text)) (λ ρ c a b h. h .size)
 
 pub rows-equal : RowsEqual
-rows-equal ρ = alike ρ _ _ (λ c a b h. h .row)
+rows-equal = equal (λ (a : Answer). a .row) (λ ρ c a b h. h .row)
 
 -- ---- texts
 
@@ -81,4 +84,5 @@ pub shown-names-renamed : ShownNamesRenamed
 unfolding shownName shownRole
 shown-names-renamed ρ =
     alike ρ (λ (a : Answer). ρ (shownName a)) shownName
-    (λ c a b h. ap (λ (r : Row). textAt (b .lent .text) (cellAt r (shown .stateName))) (h .row) ∙ h .shown (shown .stateName) name refl)
+    (λ c a b h. ap (λ (r : Row). textAt (b .lent .text) (cellAt r (shown .stateName))) (h .row)
+    ∙ h .shown (shown .stateName) name refl)
