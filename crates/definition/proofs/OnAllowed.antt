@@ -96,27 +96,27 @@ module _ (ρ : List ℕ → List ℕ) (R : Renaming ρ) where
 
   -- ---- on such strings it is the renaming itself
 
-  words-7 : (w v : List ℕ) → allAllowed w ≡ true → allAllowed v ≡ true → renameWords ρ w v ≡ renameWords (onAllowed ρ) w v
+  words-allowed : (w v : List ℕ) → allAllowed w ≡ true → allAllowed v ≡ true → renameWords ρ w v ≡ renameWords (onAllowed ρ) w v
   unfolding renameWords allAllowed
-  words-7 w [] e f = sym (onAllowed-in ρ w e)
-  words-7 w (b ∷ v) e f = go (isSeparator b) refl (λ x q. words-7 x v q (allowed-tail b v f))
+  words-allowed w [] e f = sym (onAllowed-in ρ w e)
+  words-allowed w (b ∷ v) e f = go (isSeparator b) refl (λ x q. words-allowed x v q (allowed-tail b v f))
     where
       go : (c : Bool) → isSeparator b ≡ c → ((x : List ℕ) → allAllowed x ≡ true → renameWords ρ x v ≡ renameWords (onAllowed ρ) x v)
           → renameWords ρ w (b ∷ v) ≡ renameWords (onAllowed ρ) w (b ∷ v)
       go true q ih = rw (q, renameWords) (ap₂ (λ (x y : List ℕ). x ++ b ∷ y) (sym (onAllowed-in ρ w e)) (ih [] refl))
       go false q ih = rw (q, renameWords) (ih (w ++ b ∷ []) (allowed-append w (b ∷ []) e (allowed-cons b [] (allowed-head b v f) refl)))
 
-  pub moved-7 : (q : Role) (v w : List ℕ) → allAllowed v ≡ true → Moved ρ q v w → Moved (onAllowed ρ) q v w
+  pub moved-allowed : (q : Role) (v w : List ℕ) → allAllowed v ≡ true → Moved ρ q v w → Moved (onAllowed ρ) q v w
   unfolding allAllowed
-  moved-7 name v w e m = m ∙ sym (onAllowed-in ρ v e)
-  moved-7 names v w e m = m ∙ words-7 [] v refl e
-  moved-7 masked v w e m = m
-  moved-7 plain v w e m = m
+  moved-allowed name v w e m = m ∙ sym (onAllowed-in ρ v e)
+  moved-allowed names v w e m = m ∙ words-allowed [] v refl e
+  moved-allowed masked v w e m = m
+  moved-allowed plain v w e m = m
 
   -- and back
   pub moved-back : (q : Role) (v w : List ℕ) → allAllowed v ≡ true → Moved (onAllowed ρ) q v w → Moved ρ q v w
   unfolding allAllowed
   moved-back name v w e m = m ∙ onAllowed-in ρ v e
-  moved-back names v w e m = m ∙ sym (words-7 [] v refl e)
+  moved-back names v w e m = m ∙ sym (words-allowed [] v refl e)
   moved-back masked v w e m = m
   moved-back plain v w e m = m

@@ -7,10 +7,10 @@ use mathlib.Core.List.{List, [], _∷_, _++_, map, append-nil}
 use Rattle.definition.specs.Text.{str, allAllowed, placeIn}
 use Rattle.definition.specs.Elements.{roleOf, tagOf, keyOf}
 use Rattle.definition.specs.Event as E
-use Rattle.definition.specs.Event.{Line, lineOf, linesFrom, tailFrom, isNil, linesOf, unescapeFrom, ifAllowed, legible, Event, Body, withPair, lastText, bodyOf, eventWith, namedEvent, eventOfLines, kindNames, readEvent}
+use Rattle.definition.specs.Event.{Line, lineOf, linesFrom, tailFrom, isNil, linesOf, unescapeFrom, ifAllowed, legible, Body, withPair, lastText, bodyOf, eventWith, namedEvent, eventOfLines, kindNames, readEvent}
 use Rattle.definition.specs.Renaming.{Renaming, Moved, ValueRel, LinesRel, lastLine, allLines, tagWritten, keyWritten, elementIn, keyBefore, isFree}
 use Rattle.definition.proofs.Base.{true-is-false, none-is-some, some-inj}
-use Rattle.definition.proofs.OnAllowed.{onAllowed, total, moved-7}
+use Rattle.definition.proofs.OnAllowed.{onAllowed, total, moved-allowed}
 use Rattle.definition.proofs.Loads.{TextAllowed, AttributesRel, EventRel}
 
 -- Both are out of form, or both in form and related.
@@ -93,7 +93,7 @@ module _ (ρ : List ℕ → List ℕ) (R : Renaming ρ) where
   unfolding withPair
   pair-key g k none q v w x y f m h = OptRel.neither
   pair-key g k (some z) q v w x y f m h =
-      pair-same g z x y (legible-allowed v x f) (moved-7 ρ R (roleOf g (keyOf z)) x y (legible-allowed v x f) (subst (λ (n : ℕ). Moved ρ (roleOf g n) x y) (key-of k z q) m)) h
+      pair-same g z x y (legible-allowed v x f) (moved-allowed ρ R (roleOf g (keyOf z)) x y (legible-allowed v x f) (subst (λ (n : ℕ). Moved ρ (roleOf g n) x y) (key-of k z q) m)) h
 
   pair-ρ : (g : ℕ) (k v w : List ℕ) → ValueRel ρ (roleOf g (keyWritten k)) v w → {a b : Option Body} → OptRel (BodyRel g) a b
       → OptRel (BodyRel g) (withPair (legible k) (legible v) a) (withPair (legible k) (legible w) b)

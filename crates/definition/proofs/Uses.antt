@@ -80,9 +80,11 @@ pub arrays-as-long : ArraysAsLong
 unfolding roleAt
 arrays-as-long ρ = texts ρ length length (table .entries) (entry .array) masked refl (λ v w e. e)
 
-pub shown-names-renamed : ShownNamesRenamed
+shown-name : (ρ : List ℕ → List ℕ) (c : Call) (a b : Answer) → AnswerRel ρ c a b → shownName b ≡ ρ (shownName a)
 unfolding shownName shownRole
-shown-names-renamed ρ =
-    alike ρ (λ (a : Answer). ρ (shownName a)) shownName
-    (λ c a b h. ap (λ (r : Row). textAt (b .lent .text) (cellAt r (shown .stateName))) (h .row)
-    ∙ h .shown (shown .stateName) name refl)
+shown-name ρ c a b h =
+    let e : textAt (b .lent .text) (cellAt (a .row) (shown .stateName)) ≡ ρ (shownName a) = h .shown (shown .stateName) name refl in
+    ap (λ (r : Row). textAt (b .lent .text) (cellAt r (shown .stateName))) (h .row) ∙ e
+
+pub shown-names-renamed : ShownNamesRenamed
+shown-names-renamed ρ = alike ρ (λ (a : Answer). ρ (shownName a)) shownName (shown-name ρ)
