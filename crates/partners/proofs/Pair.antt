@@ -50,6 +50,7 @@ calls a z c d e f =
     ∷ event (str "event=end\nname=onentry\n")
     ∷ event (str "event=end\nname=parallel\n")
     ∷ event (str "event=empty\nname=final\nkey=id\nvalue=" ++ z ++ str "\n")
+    ∷ event (str "event=empty\nname=state\nkey=id\nvalue=" ++ z ++ str "\nkey=initial\nvalue=h " ++ a ++ str "\n")
     ∷ event (str "event=open\nname=final\nkey=id\nvalue=" ++ a)
     ∷ event (str "event=open\nname=state\nname=send\nkey=id\nvalue=" ++ a ++ str "\n")
     ∷ event (str "event=open\nname=send\nname=state\nkey=id\nvalue=aanamed\n")
@@ -87,7 +88,7 @@ small =
       text = 4096;
       opened = 6;
       states = 4;
-      transitions = 3;
+      transitions = 4;
       regions = 4;
       entries = 5;
       invokes = 1;
@@ -99,15 +100,15 @@ small =
     }
 
 abbrev sizes : List ℕ
-sizes = 1 ∷ 4 ∷ 3 ∷ 4 ∷ 5 ∷ 1 ∷ 1 ∷ 1 ∷ 20 ∷ 6 ∷ 6 ∷ 12 ∷ []
+sizes = 1 ∷ 4 ∷ 4 ∷ 4 ∷ 5 ∷ 1 ∷ 1 ∷ 1 ∷ 20 ∷ 6 ∷ 6 ∷ 12 ∷ []
 
 abbrev numbers : List Call → List ℕ
 numbers cs = map (λ (a : Answer). a .number) (run small (zeros sizes 300) start cs)
 
-pub taken : numbers one ≡ replicate 23 0 ++ replicate 7 3 ++ replicate 8 0 ++ 16 ∷ 0 ∷ 16 ∷ []
+pub taken : numbers one ≡ replicate 24 0 ++ replicate 7 3 ++ replicate 8 0 ++ 16 ∷ 0 ∷ 16 ∷ []
 unfolding run zeros start one
 taken = refl
 
 -- So are the partner's: nothing of it is computed here.
-pub taken-too : numbers two ≡ replicate 23 0 ++ replicate 7 3 ++ replicate 8 0 ++ 16 ∷ 0 ∷ 16 ∷ []
+pub taken-too : numbers two ≡ replicate 24 0 ++ replicate 7 3 ++ replicate 8 0 ++ 16 ∷ 0 ∷ 16 ∷ []
 taken-too = numbers-equal ρ renaming small sizes 300 one two partners ∙ taken
