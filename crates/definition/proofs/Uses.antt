@@ -1,16 +1,19 @@
 -- Demand 3 put to use: whoever weakens a field of its conclusion loses one of these.
 use Prim.Native.Nat.{ℕ, zero, suc, _<_}
-use mathlib.Core.Path.{_≡_, refl, ap, ap₂, _∙_}
+use mathlib.Core.Path.{_≡_, refl, ap, ap₂, _∙_, subst}
+use mathlib.Core.Bool.{Bool, true, false}
 use mathlib.Core.Option.{some}
 use mathlib.Core.List.{List, [], _∷_, map}
 use lib.ListN.{length, getD, take}
+use lib.Dec.{eqb}
+use borrow.Author.Tests.{eqb-true}
 use native.Mathlib.Omega.{arith}
 use Rattle.definition.specs.Elements.{Role, name, masked, plain}
 use Rattle.definition.specs.Rows.{Row, Table, table, shown, state, transition, entry, member, cellAt, textAt}
 use Rattle.definition.specs.declared.Position.{Position}
-use Rattle.definition.specs.Reader.{Call, Answer, counts}
-use Rattle.definition.specs.Renaming.{Moved, roleAt, shownRole, AnswerRel, AnswersRel}
-use Rattle.definition.specs.Uses.{each, shownName, Alike, Equal, NumbersEqual, PositionsEqual, TablesEqual, TextsAsLong, RowsEqual, StateNamesRenamed, SendIdsEqual, WordsEqual, ConditionsAsLong, ArraysAsLong, ShownNamesRenamed}
+use Rattle.definition.specs.Reader.{Call, reading, Answer, counts}
+use Rattle.definition.specs.Renaming.{Moved, roleAt, shownRole, CallRel, CallsRel, AnswerRel, AnswersRel}
+use Rattle.definition.specs.Uses.{each, eachRead, Alike, Equal, NumbersEqual, PositionsEqual, TablesEqual, TextsAsLong, RowsEqual, StateNamesRenamed, SendIdsEqual, WordsEqual, ConditionsAsLong, ArraysAsLong, ReadAlike, NamesReadRenamed, SendStatesRenamed, InvokeStatesRenamed, IdsReadEqual, ConditionsReadAsLong}
 use Rattle.definition.proofs.Demand3.{demand3}
 
 -- ---- from one call to the list
@@ -80,11 +83,43 @@ pub arrays-as-long : ArraysAsLong
 unfolding roleAt
 arrays-as-long ρ = texts ρ length length (table .entries) (entry .array) masked refl (λ v w e. e)
 
-shown-name : (ρ : List ℕ → List ℕ) (c : Call) (a b : Answer) → AnswerRel ρ c a b → shownName b ≡ ρ (shownName a)
-unfolding shownName shownRole
-shown-name ρ c a b h =
-    let e : textAt (b .lent .text) (cellAt (a .row) (shown .stateName)) ≡ ρ (shownName a) = h .shown (shown .stateName) name refl in
-    ap (λ (r : Row). textAt (b .lent .text) (cellAt r (shown .stateName))) (h .row) ∙ e
+-- ---- texts of rows as they are read
 
-pub shown-names-renamed : ShownNamesRenamed
-shown-names-renamed ρ = alike ρ (λ (a : Answer). ρ (shownName a)) shownName (shown-name ρ)
+module _ {X : Type 0} (ρ : List ℕ → List ℕ) (f g : List ℕ → X) (t c : ℕ) (q : Role) (e : shownRole t c ≡ some q) (h : (v w : List ℕ) → Moved ρ q v w → g w ≡ f v) where
+  cell-read : (i : ℕ) (a b : Answer) → AnswerRel ρ (reading t i) a b → g (textAt (b .lent .text) (cellAt (b .row) c)) ≡ f (textAt (a .lent .text) (cellAt (a .row) c))
+  cell-read i a b r =
+      ap (λ (x : Row). g (textAt (b .lent .text) (cellAt x c))) (r .row) ∙ h (textAt (a .lent .text) (cellAt (a .row) c)) (textAt (b .lent .text) (cellAt (a .row) c)) (r .shown c q e)
+
+  cells-read : {cs ds : List Call} {as₁ bs : List Answer} → CallsRel ρ cs ds → AnswersRel ρ cs as₁ bs → eachRead g t c ds bs ≡ eachRead f t c cs as₁
+  unfolding eachRead
+  cells-read CallsRel.stop AnswersRel.stop = refl
+  cells-read (CallsRel.next (CallRel.events x y l z) k) (AnswersRel.next r n) = cells-read k n
+  cells-read (CallsRel.next {cs = cs} {ds = ds} (CallRel.readings u i) k) (AnswersRel.next {a = a} {b = b} {as₁ = as₁} {bs = bs} r n) = go (eqb u t) refl (cells-read k n)
+    where
+      go : (s : Bool) → eqb u t ≡ s → eachRead g t c ds bs ≡ eachRead f t c cs as₁
+          → eachRead g t c (reading u i ∷ ds) (b ∷ bs) ≡ eachRead f t c (reading u i ∷ cs) (a ∷ as₁)
+      go true z ih = rw (z, eachRead) (ap₂ _∷_ (cell-read i a b (subst (λ (v : ℕ). AnswerRel ρ (reading v i) a b) (eqb-true u t z) r)) ih)
+      go false z ih = rw (z, eachRead) ih
+
+  read-alike : ReadAlike ρ t c f g
+  read-alike N L ks k cs ds m = cells-read m (demand3 ρ N L ks k cs ds m)
+
+pub names-read-renamed : NamesReadRenamed
+unfolding shownRole roleAt
+names-read-renamed ρ = read-alike ρ ρ (λ v. v) (table .states) (state .name) name refl (λ v w e. e)
+
+pub send-states-renamed : SendStatesRenamed
+unfolding shownRole
+send-states-renamed ρ = read-alike ρ ρ (λ v. v) (table .entries) (shown .stateName) name refl (λ v w e. e)
+
+pub invoke-states-renamed : InvokeStatesRenamed
+unfolding shownRole
+invoke-states-renamed ρ = read-alike ρ ρ (λ v. v) (table .invokes) (shown .stateName) name refl (λ v w e. e)
+
+pub ids-read-equal : IdsReadEqual
+unfolding shownRole roleAt
+ids-read-equal ρ = read-alike ρ (λ v. v) (λ v. v) (table .entries) (entry .id) plain refl (λ v w e. e)
+
+pub conditions-read-as-long : ConditionsReadAsLong
+unfolding shownRole roleAt
+conditions-read-as-long ρ = read-alike ρ length length (table .transitions) (transition .cond) masked refl (λ v w e. e)

@@ -1,11 +1,13 @@
 -- What demand 3 gives, said of whole lists of calls: equal numbers, positions, tables and rows, and each class of text in its own way.
 use Prim.Native.Nat.{ℕ}
 use mathlib.Core.Path.{_≡_}
-use mathlib.Core.List.{List, [], map}
+use mathlib.Core.Bool.{true, false}
+use mathlib.Core.List.{List, [], _∷_, map}
 use lib.ListN.{length, getD, take}
+use lib.Dec.{eqb}
 use Rattle.definition.specs.declared.Limits.{Limits}
 use Rattle.definition.specs.Rows.{Row, table, shown, state, transition, entry, member, cellAt, textAt}
-use Rattle.definition.specs.Reader.{Call, Answer, counts, run, start}
+use Rattle.definition.specs.Reader.{Call, event, reading, Answer, counts, run, start}
 use Rattle.definition.specs.Renaming.{Renaming, CallsRel, zeros}
 
 -- What f makes of the texts of column c in the rows of table t that are in use after a call.
@@ -15,9 +17,13 @@ each f t c a = map (λ (r : Row). f (textAt (a .lent .text) (cellAt r c))) (take
 abbrev itself : List ℕ → List ℕ
 itself w = w
 
--- The state's name that a row just read shows: a send's or an invoke's.
-unfoldable pub shownName : Answer → List ℕ
-shownName a = textAt (a .lent .text) (cellAt (a .row) (shown .stateName))
+-- What f makes of the texts of column c in the rows of kind t that are read.
+unfoldable pub eachRead : {X : Type 0} → (List ℕ → X) → ℕ → ℕ → List Call → List Answer → List X
+eachRead f t c [] as₁ = []
+eachRead f t c (d ∷ ds) [] = []
+eachRead f t c (event raw ∷ ds) (a ∷ as₁) = eachRead f t c ds as₁
+eachRead f t c (reading u i ∷ ds) (a ∷ as₁) =
+    elim (eqb u t) [ true ↦ f (textAt (a .lent .text) (cellAt (a .row) c)) ∷ eachRead f t c ds as₁ | false ↦ eachRead f t c ds as₁ ]
 
 -- Call by call, `theirs` of the partner's answers is `ours` of the list's own, whatever the limits and however long the slices are.
 abbrev pub Alike : {X : Type 0} → (List ℕ → List ℕ) → (Answer → X) → (Answer → X) → Type 0
@@ -64,6 +70,25 @@ ConditionsAsLong = Equal (each length (table .transitions) (transition .cond))
 abbrev pub ArraysAsLong : Type 0
 ArraysAsLong = Equal (each length (table .entries) (entry .array))
 
--- "A state's name that another row keeps is a state name too."
-abbrev pub ShownNamesRenamed : Type 0
-ShownNamesRenamed = (ρ : List ℕ → List ℕ) → Alike ρ (λ (a : Answer). ρ (shownName a)) shownName
+-- ---- texts of rows as they are read
+
+abbrev pub ReadAlike : {X : Type 0} → (List ℕ → List ℕ) → ℕ → ℕ → (List ℕ → X) → (List ℕ → X) → Type 0
+ReadAlike ρ t c ours theirs =
+    Renaming ρ → (L : Limits) (ks : List ℕ) (k : ℕ) (cs ds : List Call) → CallsRel ρ cs ds
+    → eachRead theirs t c ds (run L (zeros ks k) start ds) ≡ eachRead ours t c cs (run L (zeros ks k) start cs)
+
+abbrev pub NamesReadRenamed : Type 0
+NamesReadRenamed = (ρ : List ℕ → List ℕ) → ReadAlike ρ (table .states) (state .name) ρ itself
+
+-- "A state's name that another row keeps is a state name too": a send's, and an invoke's.
+abbrev pub SendStatesRenamed : Type 0
+SendStatesRenamed = (ρ : List ℕ → List ℕ) → ReadAlike ρ (table .entries) (shown .stateName) ρ itself
+
+abbrev pub InvokeStatesRenamed : Type 0
+InvokeStatesRenamed = (ρ : List ℕ → List ℕ) → ReadAlike ρ (table .invokes) (shown .stateName) ρ itself
+
+abbrev pub IdsReadEqual : Type 0
+IdsReadEqual = (ρ : List ℕ → List ℕ) → ReadAlike ρ (table .entries) (entry .id) itself itself
+
+abbrev pub ConditionsReadAsLong : Type 0
+ConditionsReadAsLong = (ρ : List ℕ → List ℕ) → ReadAlike ρ (table .transitions) (transition .cond) length length

@@ -8,6 +8,7 @@ use Rattle.definition.specs.declared.Position.{Position}
 use Rattle.definition.specs.Rules.{withinLimits, keepsRules}
 use Rattle.definition.specs.Reader.{Lent, storeOf, Call, Answer, call, run, longEnough, inOrder}
 
+-- P holds of every answer.
 unfoldable pub Every : (Answer → Type 0) → List Answer → Type 0
 Every P [] = Unit {0}
 Every P (a ∷ as₁) = P a × Every P as₁
