@@ -14,7 +14,7 @@ use Rattle.definition.specs.Rows.{Cell, textFrom, textAt}
 use Rattle.definition.specs.Look.{Load, valueLoads, textLoads, nameLoads, isGenerated, payload, loadsOf}
 use Rattle.definition.proofs.Base.{is-true, T-of, All, All-append}
 use Rattle.definition.proofs.Words.{Total}
-use Rattle.definition.proofs.On7.{allowed-head, allowed-tail, allowed-cons, allowed-append}
+use Rattle.definition.proofs.OnAllowed.{allowed-head, allowed-tail, allowed-cons, allowed-append}
 use Rattle.definition.proofs.Loads.{TextAllowed, AttributesRel, EventRel}
 
 pub allowed-take : (n : ℕ) (v : List ℕ) → allAllowed v ≡ true → allAllowed (take n v) ≡ true

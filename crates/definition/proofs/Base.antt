@@ -1,11 +1,11 @@
 -- Small facts that several proofs use.
-use Prim.Native.Nat.{ℕ, zero, suc}
+use Prim.Native.Nat.{ℕ, zero, suc, _≤_}
 use mathlib.Core.Path.{_≡_, refl, sym, ap, ap₂, _∙_, subst}
 use mathlib.Core.Bool.{Bool, true, false, _&&_, cond}
 use mathlib.Core.Option.{Option, none, some}
 use mathlib.Core.List.{List, [], _∷_, _++_}
 use lib.ListN.{length, getD, set}
-use lib.Dec.{T, eqb}
+use lib.Dec.{T, eqb, leb, leb→le}
 use borrow.Author.Tests.{eqb-true, eq-eqb}
 use native.Mathlib.Omega.{arith}
 use Rattle.definition.specs.Text.{same}
@@ -36,6 +36,9 @@ T-of false e = true-is-false (sym e)
 pub is-true : (c : Bool) → T c → c ≡ true
 is-true true t = refl
 is-true false t = absurd t
+
+pub le-of : (a b : ℕ) → leb a b ≡ true → a ≤ b
+le-of a b e = leb→le a b (T-of (leb a b) e)
 
 pub none-is-some : {A X : Type 0} (a : A) → none ≡ some a → X
 none-is-some a e = let y : _≡_ {A = ℕ} 0 1 = cc in absurd (omega arith)
@@ -107,10 +110,20 @@ pub All-append : {A : Type 0} (P : A → Type 0) (xs ys : List A) → All P xs �
 All-append P [] ys a b = b
 All-append P (x ∷ xs) ys a b = (a .0, All-append P xs ys (a .1) b)
 
-pub All-getD : {A : Type 0} (P : A → Type 0) (d : A) → P d → (xs : List A) → All P xs → (i : ℕ) → P (getD xs i d)
+pub All-getD {ℓ} : {A : Type ℓ} (P : A → Type 0) (d : A) → P d → (xs : List A) → All P xs → (i : ℕ) → P (getD xs i d)
 All-getD P d k [] a i = k
 All-getD P d k (x ∷ xs) a zero = a .0
 All-getD P d k (x ∷ xs) a (suc i) = All-getD P d k xs (a .1) i
+
+-- A predicate that goes by the place in a list, and holds past its end too.
+abbrev pub AllAt {ℓ} : {A : Type ℓ} → (ℕ → A → Type 0) → A → List A → Type 0
+AllAt P d [] = (i : ℕ) → P i d
+AllAt P d (x ∷ xs) = P 0 x × AllAt (λ i. P (suc i)) d xs
+
+pub at-place {ℓ} : {A : Type ℓ} (P : ℕ → A → Type 0) (d : A) (xs : List A) → AllAt P d xs → (i : ℕ) → P i (getD xs i d)
+at-place P d [] a i = a i
+at-place P d (x ∷ xs) a zero = a .0
+at-place P d (x ∷ xs) a (suc i) = at-place (λ j. P (suc j)) d xs (a .1) i
 
 -- What stands at a place after a set: the new value, or what stood there.
 pub getD-set : {A : Type 0} (P : ℕ → A → Type 0) (xs : List A) (d : A) (k : ℕ) (x : A) → ((i : ℕ) → P i (getD xs i d)) → P k x → (i : ℕ) → P i (getD (set xs k x) i d)

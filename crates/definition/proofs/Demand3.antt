@@ -3,7 +3,7 @@ use Prim.Native.Nat.{ℕ, zero, suc, _+_}
 use mathlib.Core.Path.{_≡_, refl, sym, ap, ap₂, _∙_, subst, subst₂}
 use mathlib.Core.Bool.{Bool, true, false, _&&_, cond}
 use mathlib.Core.List.{List, [], _∷_, _++_}
-use lib.ListN.{length, getD, take, drop, replicate, length-append, length-drop, length-take, take-append-drop}
+use lib.ListN.{length, getD, take, drop, replicate, length-append, length-drop, take-append-drop}
 use lib.Dec.{leb}
 use lib.Seq.{take-append-seam}
 use native.Mathlib.Omega.{arith}
@@ -18,7 +18,7 @@ use Rattle.definition.specs.Renaming.{Renaming, Moved, zeroTables, zeros
 use Rattle.definition.proofs.Base.{All, All-append, elim-cond}
 use Rattle.definition.proofs.Words.{Total}
 use Rattle.definition.proofs.Names.{Fits, textFrom-append, Held, held-none, held-grow}
-use Rattle.definition.proofs.On7.{on7, total, moved-back}
+use Rattle.definition.proofs.OnAllowed.{onAllowed, total, moved-back}
 use Rattle.definition.proofs.Edits.{RowOk, TablesOk, blank-ok}
 use Rattle.definition.proofs.Shown.{zeros-held, shown-held}
 use Rattle.definition.proofs.Parse.{read-ρ}
@@ -78,7 +78,7 @@ to-zero P ts h k = subst (λ (x : ℕ). All (P x) (getD ts k [])) (omega arith) 
 
 module _ (ρ : List ℕ → List ℕ) (N : Renaming ρ) where
   abbrev σ : List ℕ → List ℕ
-  σ = on7 ρ
+  σ = onAllowed ρ
 
   abbrev R : Total σ
   R = total ρ N

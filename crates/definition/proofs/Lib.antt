@@ -3,7 +3,7 @@ pub mod Stars
 pub mod Base
 pub mod Words
 pub mod Names
-pub mod On7
+pub mod OnAllowed
 pub mod Parts
 pub mod Loads
 pub mod Fields
@@ -20,3 +20,4 @@ pub mod Demand3
 pub mod EventLength
 pub mod Swap
 pub mod Partners
+pub mod Uses

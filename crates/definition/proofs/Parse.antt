@@ -7,10 +7,10 @@ use mathlib.Core.List.{List, [], _∷_, _++_, map, append-nil}
 use Rattle.definition.specs.Text.{str, allAllowed, placeIn}
 use Rattle.definition.specs.Elements.{roleOf, tagOf, keyOf}
 use Rattle.definition.specs.Event as E
-use Rattle.definition.specs.Event.{Line, lineOf, linesFrom, tailFrom, isNil, linesOf, unescapeFrom, ifAllowed, legible, Event, Body, withPair, lastText, bodyOf, eventWith, namedEvent, eventOfLines, kindNames, readEvent}
+use Rattle.definition.specs.Event.{Line, lineOf, linesFrom, tailFrom, isNil, linesOf, unescapeFrom, ifAllowed, legible, Body, withPair, lastText, bodyOf, eventWith, namedEvent, eventOfLines, kindNames, readEvent}
 use Rattle.definition.specs.Renaming.{Renaming, Moved, ValueRel, LinesRel, lastLine, allLines, tagWritten, keyWritten, elementIn, keyBefore, isFree}
 use Rattle.definition.proofs.Base.{true-is-false, none-is-some, some-inj}
-use Rattle.definition.proofs.On7.{on7, total, moved-7}
+use Rattle.definition.proofs.OnAllowed.{onAllowed, total, moved-allowed}
 use Rattle.definition.proofs.Loads.{TextAllowed, AttributesRel, EventRel}
 
 -- Both are out of form, or both in form and related.
@@ -71,13 +71,13 @@ module _ (ρ : List ℕ → List ℕ) (R : Renaming ρ) where
   kinds (LinesRel.moved v w m h) = rw (value-line v, value-line w) (KindsRel.moved v w m (kinds h))
 
   record BodyRel (g : ℕ) (a b : Body) : Type 0 where
-    attributes : AttributesRel (on7 ρ) (total ρ R) g (a .attributes) (b .attributes)
+    attributes : AttributesRel (onAllowed ρ) (total ρ R) g (a .attributes) (b .attributes)
     text : b .text ≡ a .text
     allowed : TextAllowed (a .text)
 
   -- ---- the form
 
-  pair-same : (g : ℕ) (k x y : List ℕ) → allAllowed x ≡ true → Moved (on7 ρ) (roleOf g (keyOf k)) x y → {a b : Option Body} → OptRel (BodyRel g) a b
+  pair-same : (g : ℕ) (k x y : List ℕ) → allAllowed x ≡ true → Moved (onAllowed ρ) (roleOf g (keyOf k)) x y → {a b : Option Body} → OptRel (BodyRel g) a b
       → OptRel (BodyRel g) (withPair (some k) (some x) a) (withPair (some k) (some y) b)
   unfolding withPair
   pair-same g k x y l m OptRel.neither = OptRel.neither
@@ -93,7 +93,7 @@ module _ (ρ : List ℕ → List ℕ) (R : Renaming ρ) where
   unfolding withPair
   pair-key g k none q v w x y f m h = OptRel.neither
   pair-key g k (some z) q v w x y f m h =
-      pair-same g z x y (legible-allowed v x f) (moved-7 ρ R (roleOf g (keyOf z)) x y (legible-allowed v x f) (subst (λ (n : ℕ). Moved ρ (roleOf g n) x y) (key-of k z q) m)) h
+      pair-same g z x y (legible-allowed v x f) (moved-allowed ρ R (roleOf g (keyOf z)) x y (legible-allowed v x f) (subst (λ (n : ℕ). Moved ρ (roleOf g n) x y) (key-of k z q) m)) h
 
   pair-ρ : (g : ℕ) (k v w : List ℕ) → ValueRel ρ (roleOf g (keyWritten k)) v w → {a b : Option Body} → OptRel (BodyRel g) a b
       → OptRel (BodyRel g) (withPair (legible k) (legible v) a) (withPair (legible k) (legible w) b)
@@ -124,19 +124,19 @@ module _ (ρ : List ℕ → List ℕ) (R : Renaming ρ) where
   body-ρ g (KindsRel.moved {k = k} v w m h) = pair-ρ g k v w m (body-ρ g h)
 
   with-ρ : (k : ℕ) (n : List ℕ) {a b : Option Body} → OptRel (BodyRel (tagOf n)) a b
-      → OptRel (EventRel (on7 ρ) (total ρ R)) (eventWith k (some n) a) (eventWith k (some n) b)
+      → OptRel (EventRel (onAllowed ρ) (total ρ R)) (eventWith k (some n) a) (eventWith k (some n) b)
   unfolding eventWith
   with-ρ k n OptRel.neither = OptRel.neither
   with-ρ k n (OptRel.both h) = OptRel.both (record { kind = refl; name = refl; attributes = h .attributes; text = h .text; allowed = h .allowed })
 
   name-ρ : (k : ℕ) (n : List ℕ) (o : Option (List ℕ)) → legible n ≡ o → {a b : Option Body} → OptRel (BodyRel (tagWritten n)) a b
-      → OptRel (EventRel (on7 ρ) (total ρ R)) (eventWith k o a) (eventWith k o b)
+      → OptRel (EventRel (onAllowed ρ) (total ρ R)) (eventWith k o a) (eventWith k o b)
   unfolding eventWith
   name-ρ k n none q h = OptRel.neither
   name-ρ k n (some x) q {a} {b} h = with-ρ k x (subst (λ (g : ℕ). OptRel (BodyRel g) a b) (tag-of n x q) h)
 
   named-ρ : (g k : ℕ) {p : Option (List ℕ)} {ls ms : List Line} → g ≡ elementIn ls → KindsRel g p ls ms
-      → OptRel (EventRel (on7 ρ) (total ρ R)) (namedEvent k ls) (namedEvent k ms)
+      → OptRel (EventRel (onAllowed ρ) (total ρ R)) (namedEvent k ls) (namedEvent k ms)
   unfolding namedEvent elementIn keyBefore
   named-ρ g k q KindsRel.done = OptRel.neither
   named-ρ g k q (KindsRel.kept (E.name n) {ls = ls} {ms = ms} f h) =
@@ -149,7 +149,7 @@ module _ (ρ : List ℕ → List ℕ) (R : Renaming ρ) where
   named-ρ g k q (KindsRel.moved v w m h) = OptRel.neither
 
   event-ρ : (g : ℕ) {p : Option (List ℕ)} {ls ms : List Line} → g ≡ elementIn ls → KindsRel g p ls ms
-      → OptRel (EventRel (on7 ρ) (total ρ R)) (eventOfLines ls) (eventOfLines ms)
+      → OptRel (EventRel (onAllowed ρ) (total ρ R)) (eventOfLines ls) (eventOfLines ms)
   unfolding eventOfLines elementIn keyBefore
   event-ρ g q KindsRel.done = OptRel.neither
   event-ρ g q (KindsRel.kept (E.event x) f h) = named-ρ g (placeIn kindNames x) q h
@@ -162,11 +162,11 @@ module _ (ρ : List ℕ → List ℕ) (R : Renaming ρ) where
 
   -- PARSING KEEPS THE RELATION
   pub read-ρ : (c d : List ℕ) → LinesRel ρ (elementIn (map lineOf (allLines c))) none (allLines c) (allLines d) → isNil (tailFrom [] d) ≡ isNil (tailFrom [] c)
-      → OptRel (EventRel (on7 ρ) (total ρ R)) (readEvent c) (readEvent d)
+      → OptRel (EventRel (onAllowed ρ) (total ρ R)) (readEvent c) (readEvent d)
   unfolding readEvent linesOf
   read-ρ c d h q = go (isNil (tailFrom [] c)) refl
     where
-      go : (b : Bool) → isNil (tailFrom [] c) ≡ b → OptRel (EventRel (on7 ρ) (total ρ R)) (readEvent c) (readEvent d)
+      go : (b : Bool) → isNil (tailFrom [] c) ≡ b → OptRel (EventRel (onAllowed ρ) (total ρ R)) (readEvent c) (readEvent d)
       go true e =
           rw (e, readEvent, q ∙ e, readEvent)
           (event-ρ (elementIn (map lineOf (linesFrom [] c))) refl

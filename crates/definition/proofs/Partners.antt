@@ -16,7 +16,7 @@ unfolding str allAllowed isAllowed isWord noSeparator isSeparator startsGenerate
 aa-zz = swap-renaming (str "aa") (str "zz") refl tt tt tt tt (λ t. t) (λ t. t)
 
 -- The list, in the names a and w (a list of names) and the masked texts c, d, e. The same condition stands twice, and is replaced each time on its own; an
--- escape more makes the partner's line longer; a send's id is a state's name and stays; an event's `name=` line comes last; a value can't be unescaped.
+-- escape more makes the partner's line longer; a send's id is a state's name and stays, as an unknown element's does, whose condition is masked too; an event's `name=` line comes last; a value can't be unescaped.
 abbrev calls : List ℕ → List ℕ → List ℕ → List ℕ → List ℕ → List Call
 calls a w c d e =
     event (str "event=open\nname=scxml\n")
@@ -25,6 +25,7 @@ calls a w c d e =
     ∷ event (str "event=empty\nname=send\nkey=id\nvalue=aa\n")
     ∷ event (str "event=open\nname=if\nkey=cond\nvalue=" ++ c ++ str "\n")
     ∷ event (str "event=open\nname=if\nkey=cond\nvalue=" ++ d ++ str "\n")
+    ∷ event (str "event=empty\nname=x\nkey=cond\nvalue=" ++ c ++ str "\nkey=id\nvalue=aa\n")
     ∷ event (str "key=id\nvalue=" ++ a ++ str "\nkey=cond\nvalue=" ++ e ++ str "\nname=state\n")
     ∷ event (str "event=open\nname=state\nkey=id\nvalue=\\q\n")
     ∷ reading 4 1
@@ -65,6 +66,11 @@ partners =
     (LinesRel.moved (str "x>1") (str "\\\\\\n!") (ValueRel.legibly (str "x>1") (str "\\\n!") refl refl refl) LinesRel.done)))) refl)
     (CallsRel.next
     (CallRel.events _ _
+    (LinesRel.kept _ refl (LinesRel.kept _ refl (LinesRel.kept _ refl
+    (LinesRel.moved (str "x>1") (str "y<2") (ValueRel.legibly (str "x>1") (str "y<2") refl refl refl)
+    (LinesRel.kept _ refl (LinesRel.moved (str "aa") (str "aa") (ValueRel.legibly (str "aa") (str "aa") refl refl refl) LinesRel.done)))))) refl)
+    (CallsRel.next
+    (CallRel.events _ _
     (LinesRel.kept _ refl
     (LinesRel.moved (str "aa") (str "zz") (ValueRel.legibly (str "aa") (str "zz") refl refl refl)
     (LinesRel.kept _ refl
@@ -72,7 +78,7 @@ partners =
     (CallsRel.next
     (CallRel.events _ _
     (LinesRel.kept _ refl (LinesRel.kept _ refl (LinesRel.kept _ refl (LinesRel.moved (str "\\q") (str "\\q") (ValueRel.illegible refl refl) LinesRel.done)))) refl)
-    (CallsRel.next (CallRel.readings 4 1) (CallsRel.next (CallRel.readings 1 2) (CallsRel.next (CallRel.readings 7 1) CallsRel.stop))))))))))
+    (CallsRel.next (CallRel.readings 4 1) (CallsRel.next (CallRel.readings 1 2) (CallsRel.next (CallRel.readings 7 1) CallsRel.stop)))))))))))
 
 -- So their runs agree, whatever the limits and however long the slices are, too short ones included.
 pub alike : (L : Limits) (ks : List ℕ) (k : ℕ) → AnswersRel (swap (str "aa") (str "zz")) one (run L (zeros ks k) start one) (run L (zeros ks k) start two)
@@ -108,10 +114,10 @@ pub numbersOf : List Answer → List ℕ
 numbersOf [] = []
 numbersOf (a ∷ as₁) = a .number ∷ numbersOf as₁
 
-pub taken : numbersOf (run small (zeros sizes 60) start one) ≡ 0 ∷ 0 ∷ 0 ∷ 0 ∷ 0 ∷ 0 ∷ 3 ∷ 3 ∷ 0 ∷ 0 ∷ 16 ∷ []
+pub taken : numbersOf (run small (zeros sizes 60) start one) ≡ 0 ∷ 0 ∷ 0 ∷ 0 ∷ 0 ∷ 0 ∷ 0 ∷ 3 ∷ 3 ∷ 0 ∷ 0 ∷ 16 ∷ []
 unfolding numbersOf run zeros start one
 taken = refl
 
-pub too-short : numbersOf (run small (zeros [] 60) start one) ≡ 1 ∷ 1 ∷ 1 ∷ 1 ∷ 1 ∷ 1 ∷ 1 ∷ 1 ∷ 1 ∷ 1 ∷ 1 ∷ []
+pub too-short : numbersOf (run small (zeros [] 60) start one) ≡ 1 ∷ 1 ∷ 1 ∷ 1 ∷ 1 ∷ 1 ∷ 1 ∷ 1 ∷ 1 ∷ 1 ∷ 1 ∷ 1 ∷ []
 unfolding numbersOf run zeros start one
 too-short = refl

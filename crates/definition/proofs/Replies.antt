@@ -15,7 +15,7 @@ use Rattle.definition.specs.Rows.{Numbers, Store}
 use Rattle.definition.specs.Look.{Look, look, textAfter, payload, loadsOf}
 use Rattle.definition.specs.Reader.{Verdict, accept, reject, decided, Reply, settled, replyTo}
 use Rattle.definition.proofs.Words.{Total}
-use Rattle.definition.proofs.On7.{allowed-append}
+use Rattle.definition.proofs.OnAllowed.{allowed-append}
 use Rattle.definition.proofs.Loads.{moved-length, AttributesRel, EventRel}
 use Rattle.definition.proofs.Edits.{TablesOk}
 use Rattle.definition.proofs.Steps.{VerdictOk, decided-ok}

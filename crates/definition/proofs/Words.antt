@@ -14,7 +14,7 @@ use Rattle.definition.specs.Look.{spanOf}
 use Rattle.definition.specs.Renaming.{renameWords}
 use Rattle.definition.proofs.Base.{All, All-append}
 
--- A renaming of all strings; On7 makes one of a renaming of strings of bytes 0 to 127.
+-- A renaming of all strings; OnAllowed makes one of a renaming of strings of bytes 0 to 127.
 pub record Total (ρ : List ℕ → List ℕ) : Type 0 where
   pub inj : (a b : List ℕ) → ρ a ≡ ρ b → a ≡ b
   pub len : (a : List ℕ) → length (ρ a) ≡ length a

@@ -13,3 +13,4 @@ pub mod Rules
 pub mod Reader
 pub mod Stars
 pub mod Renaming
+pub mod Uses

@@ -4,8 +4,8 @@ use mathlib.Core.Path.{_≡_, refl, sym, _∙_}
 use mathlib.Core.Bool.{Bool, true, false, _&&_, _||_}
 use mathlib.Core.List.{List, [], _∷_, _++_}
 use lib.ListN.{getD, set}
-use lib.Dec.{eqb, leb, leb→le, le→leb, eqb→eq, eqb-refl}
-pub use Rattle.definition.proofs.Base.{true-is-false, T-of, is-true, and-left, and-right, All}
+use lib.Dec.{eqb, leb, le→leb, eqb→eq, eqb-refl}
+pub use Rattle.definition.proofs.Base.{true-is-false, T-of, is-true, and-left, and-right, le-of, All, All-getD, AllAt, at-place}
 
 pub false-is-true : {X : Type 0} → false ≡ true → X
 false-is-true e = true-is-false (sym e)
@@ -13,9 +13,6 @@ false-is-true e = true-is-false (sym e)
 pub and-both : (p q : Bool) → p ≡ true → q ≡ true → (p && q) ≡ true
 and-both true q e f = f
 and-both false q e f = false-is-true e
-
-pub le-of : (a b : ℕ) → leb a b ≡ true → a ≤ b
-le-of a b e = leb→le a b (T-of (leb a b) e)
 
 pub leb-of : (a b : ℕ) → a ≤ b → leb a b ≡ true
 leb-of a b h = is-true (leb a b) (le→leb a b h)
@@ -40,21 +37,6 @@ neq-of a b e h = true-is-false (sym (eqb-of a b h) ∙ e)
 pub test : {X : Type 0} (c : Bool) → (c ≡ true → X) → (c ≡ false → X) → X
 test true f g = f refl
 test false f g = g refl
-
--- A predicate that goes by the place in a list, and holds past its end too.
-abbrev pub AllAt {ℓ} : {A : Type ℓ} → (ℕ → A → Type 0) → A → List A → Type 0
-AllAt P d [] = (i : ℕ) → P i d
-AllAt P d (x ∷ xs) = P 0 x × AllAt (λ i. P (suc i)) d xs
-
-pub at-place {ℓ} : {A : Type ℓ} (P : ℕ → A → Type 0) (d : A) (xs : List A) → AllAt P d xs → (i : ℕ) → P i (getD xs i d)
-at-place P d [] a i = a i
-at-place P d (x ∷ xs) a zero = a .0
-at-place P d (x ∷ xs) a (suc i) = at-place (λ j. P (suc j)) d xs (a .1) i
-
-pub All-getD {ℓ} : {A : Type ℓ} (P : A → Type 0) (d : A) → P d → (xs : List A) → All P xs → (i : ℕ) → P (getD xs i d)
-All-getD P d k [] a i = k
-All-getD P d k (x ∷ xs) a zero = a .0
-All-getD P d k (x ∷ xs) a (suc i) = All-getD P d k xs (a .1) i
 
 pub All-map {ℓ} : {A : Type ℓ} (P Q : A → Type 0) → ((x : A) → P x → Q x) → (xs : List A) → All P xs → All Q xs
 All-map P Q f [] a = tt

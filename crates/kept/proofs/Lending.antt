@@ -144,7 +144,7 @@ in-order-after L x s e rules one =
     used-most W = unfold positionOf countersWithin in
         leb-of (length (s .text)) (L .charge) (omega (arith, W .text, le-of (s .numbers .charge) (L .charge) (and-right ((leb (s .numbers .ids) (L .drawn) && leb (s .numbers .docs) (L .drawn)) && leb (s .numbers .names) (L .drawn)) (leb (s .numbers .charge) (L .charge)) (W .counters))))
 
-rules-of : (L : Limits) (x : Lent) (p : Position) → inOrder L x p ≡ true → keepsRules L (storeOf x p) ≡ true
+pub rules-of : (L : Limits) (x : Lent) (p : Position) → inOrder L x p ≡ true → keepsRules L (storeOf x p) ≡ true
 unfolding inOrder
 rules-of L x p e = go (allAtMost (counts p) (tableLimits L) && leb (p .used) (L .charge)) refl
   where

@@ -1,7 +1,4 @@
 pub mod Base
-pub mod Refusals
-pub mod LowOutcomes
-pub mod Fifteen
 pub mod Classes
 pub mod Grow
 pub mod RowChange

@@ -103,7 +103,7 @@ module _ (L : Limits) (s : Store) (e : Event) (K : OkOf L (s .text) (s .numbers)
   pub now-ok : OkOf L t (entered (look s e) n)
   now-ok = entered-ok L (s .text) t n K grows (look s e) look-known (resolved .more) look-all
 
-  is-state : (v : ℕ) → InRange (length (look s e .known)) v → HasRow (entered (look s e) n .tables) 1 v
+  pub is-state : (v : ℕ) → InRange (length (look s e .known)) v → HasRow (entered (look s e) n .tables) 1 v
   is-state v h = entered-has L (s .text) t n K grows (look s e) look-known (resolved .more) look-all v (h .0) (h .1)
 
   pub now-opened : tableOf (entered (look s e) n) 9 ≡ tableOf n 9
@@ -112,7 +112,7 @@ module _ (L : Limits) (s : Store) (e : Event) (K : OkOf L (s .text) (s .numbers)
   pub now-chart : tableOf (entered (look s e) n) 0 ≡ tableOf n 0
   now-chart = entered-chart L (s .text) t n K grows (look s e) look-known (resolved .more) look-all
 
-  own-in : not (eqb (e .kind) (kind .ends)) ≡ true → namesState (look s e .tag) ≡ true → InRange (length (look s e .known)) (ownState (look s e))
+  pub own-in : not (eqb (e .kind) (kind .ends)) ≡ true → namesState (look s e .tag) ≡ true → InRange (length (look s e .known)) (ownState (look s e))
   unfolding ownState
   own-in k q = first-in (InRange (length (look s e .known))) (look s e .refs) look-refs (one q)
     where

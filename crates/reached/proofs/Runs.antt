@@ -179,12 +179,15 @@ module _ (L : Limits) (kept : (s : Store) (raw : List ℕ) → Reached (s .numbe
   blank-first (zero ∷ ks) k e = absurd (let h : 1 ≤ 0 = long-chart L [] (zeroTables 1 ks) (and-left (allLong (tableLimits L) ([] ∷ zeroTables 1 ks)) (leb (L .charge) (length (zeros (zero ∷ ks) k .text))) e) in omega arith)
   blank-first (suc m ∷ ks) k e = refl
 
+  pub zeros-sound : (ks : List ℕ) (k : ℕ) → longEnough L (zeros ks k) ≡ true → Sound (zeros ks k) start
+  zeros-sound ks k e = start-sound (zeros ks k) e (blank-first ks k e)
+
   -- No answer of a run from the empty chart, in slices of zeros of any lengths, is 2.
   pub run-none-two : (ks : List ℕ) (k : ℕ) (cs : List Call) → NoneIsTwo (run L (zeros ks k) start cs)
   run-none-two ks k cs = go (longEnough L (zeros ks k)) refl
     where
       go : (b : Bool) → longEnough L (zeros ks k) ≡ b → NoneIsTwo (run L (zeros ks k) start cs)
-      go true e = run-sound (zeros ks k) start cs (start-sound (zeros ks k) e (blank-first ks k e))
+      go true e = run-sound (zeros ks k) start cs (zeros-sound ks k e)
       go false e = short-run (zeros ks k) start cs e
 
   pub stream-not-two : (ks : List ℕ) (k : ℕ) (text : List ℕ) → ¬ (stream L (zeros ks k) start text .number ≡ 2)
@@ -192,5 +195,5 @@ module _ (L : Limits) (kept : (s : Store) (raw : List ℕ) → Reached (s .numbe
   stream-not-two ks k text = go (longEnough L (zeros ks k)) refl
     where
       go : (b : Bool) → longEnough L (zeros ks k) ≡ b → ¬ (streamed L (zeros ks k) start 0 (eventsOf text) .number ≡ 2)
-      go true e = stream-sound (zeros ks k) start 0 (eventsOf text) (start-sound (zeros ks k) e (blank-first ks k e))
+      go true e = stream-sound (zeros ks k) start 0 (eventsOf text) (zeros-sound ks k e)
       go false e = short-stream (zeros ks k) start 0 (eventsOf text) e

@@ -1,7 +1,7 @@
 -- Lists and tables: what a written table or row still holds.
 use Prim.Native.Nat.{ℕ, zero, suc, _+_, _<_}
 use mathlib.Core.Path.{_≡_, refl, ap}
-use mathlib.Core.Bool.{Bool, true, false, _&&_, _||_, not, false≢true}
+use mathlib.Core.Bool.{Bool, true, false, _&&_, not, false≢true}
 use mathlib.Core.List.{List, [], _∷_, _++_, reverse, reverse-cons}
 use lib.ListN.{length, getD, set}
 use lib.Dec.{eqb}

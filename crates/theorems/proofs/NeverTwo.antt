@@ -7,11 +7,13 @@ use lib.Dec.{leb}
 use Rattle.definition.specs.declared.Limits.{Limits}
 use Rattle.definition.specs.Rows.{Store, empty}
 use Rattle.definition.specs.Rules.{keepsRules}
-use Rattle.definition.specs.Reader.{eventReply}
+use Rattle.definition.specs.Reader.{eventReply, start}
+use Rattle.definition.specs.Renaming.{zeros}
 use Rattle.reached.specs.Fed.{fed}
-use Rattle.reached.proofs.Runs.{run-none-two, stream-not-two, empty-keeps}
+use Rattle.reached.proofs.Runs.{run-none-two, stream-not-two, empty-keeps, zeros-sound}
 use Rattle.kept.proofs.RulesKept.{rules-kept, all-kept}
-use Rattle.theorems.specs.Statements.{TwoNeverAnswered, TwoNeverStreamed, ReachedKeepsRules}
+use Rattle.runs.proofs.Runs.{run-keeps-rules}
+use Rattle.theorems.specs.Statements.{TwoNeverAnswered, TwoNeverStreamed, ReachedKeepsRules, RunsKeepRules}
 
 pub two-never-answered : TwoNeverAnswered
 two-never-answered L short = run-none-two L (λ s raw reached rules accepted. rules-kept L s raw short rules accepted)
@@ -26,3 +28,7 @@ fed-keeps L short s k (r ∷ rs) = fed-keeps L short (eventReply L s r .store) (
 
 pub reached-keeps-rules : ReachedKeepsRules
 reached-keeps-rules L short raws = fed-keeps L short empty (empty-keeps L) raws
+
+pub runs-keep-rules : RunsKeepRules
+runs-keep-rules L short ks k long cs =
+    run-keeps-rules L (zeros ks k) start cs short long (zeros-sound L (λ s raw reached rules accepted. rules-kept L s raw short rules accepted) ks k long .order)

@@ -14,7 +14,7 @@ use Rattle.definition.specs.Change.{Change, Outcome, done, refuse, Closed, onCl
 use Rattle.definition.specs.States.{startScxml, startState, startParallel, startFinal, startHistory, startInitial, startDonedata, startData, endState, endScxml, defaultInitial, unlessInitial, initialOf}
 use Rattle.definition.specs.Actions.{startInvoke, startRegion, startElse, startElseIf, startParam, startContent, startTransition, startSend, entryOf, startLog, startAssign, block, startScript, rootScript, endTransition, endListed, endFinalize, endBlock, ending, Walk, meets, nowhere, noIf, walked, branch, walkFrom, elseIfBranch, byParent, ofLastSend, ofLastInvoke, ofDonedata, newParameter, contentOfSend, sendContent, lastInvoke, lastEntry, newEntry, placeOfNumber}
 use Rattle.definition.specs.Reader.{onlyNest, starts, startOf, Ends, ends, endIn, endOf}
-use Rattle.kept.proofs.Base.{at-place}
+use Rattle.definition.proofs.Base.{at-place}
 
 pub data Low : Outcome → Type 0 where
   well : {c : Change} → Low (done c)

@@ -1,4 +1,4 @@
--- A refusal leaves everything as it was; 15 is exact.
+-- A refusal leaves everything as it was.
 use Prim.Native.Nat.{ℕ, zero, suc}
 use mathlib.Core.Path.{_≡_, refl}
 use mathlib.Core.Bool.{Bool, true, false}
@@ -6,14 +6,12 @@ use mathlib.Core.Option.{Option, none, some}
 use mathlib.Core.List.{List}
 use native.Mathlib.Omega.{arith}
 use Rattle.definition.specs.declared.Limits.{Limits}
-use Rattle.definition.specs.Rows.{Numbers, Store}
+use Rattle.definition.specs.Rows.{Store}
 use Rattle.definition.specs.Event.{Event, readEvent, inForm, keysDiffer}
 use Rattle.definition.specs.Look.{look, textAfter}
-use Rattle.definition.specs.Change.{entered}
-use Rattle.definition.specs.Rules.{withinLimits}
 use Rattle.definition.specs.declared.Position.{Position}
-use Rattle.definition.specs.Reader.{Verdict, accept, reject, Reply, settled, replyTo, eventReply, limited, decided, handled, firstNo, questions, Lent, Call, event, reading, refused, answerOf, answerTo, call, exists, storeOf, longEnough, inOrder}
-use Rattle.kept.specs.Statements.{RefusalKeeps, Untouched, CallRefused, ReadingKeeps, AcceptedWithin}
+use Rattle.definition.specs.Reader.{Verdict, accept, reject, Reply, settled, replyTo, eventReply, decided, Lent, Call, event, reading, refused, answerOf, answerTo, call, exists, storeOf, longEnough, inOrder}
+use Rattle.answers.specs.Statements.{RefusalKeeps, Untouched, CallRefused, ReadingKeeps}
 
 zero-is-suc : {X : Type 0} (k : ℕ) → _≡_ {A = ℕ} 0 (suc k) → X
 zero-is-suc k e = absurd (omega arith)
@@ -81,23 +79,3 @@ reading-keeps L x p t i = go (longEnough L x) (inOrder L x p) (exists (storeOf x
     go true false c f g h = rw (f, call, g, call) (refl, refl)
     go true true true f g h = rw (f, call, g, call, h, answerTo) (refl, refl)
     go true true false f g h = rw (f, call, g, call, h, answerTo) (refl, refl)
-
--- ---- the limits
-
-limited-within : (L : Limits) (v : Verdict) (n : Numbers) → limited L v ≡ accept n → withinLimits L n ≡ true
-unfolding limited
-limited-within L (reject k) n e = let z : _≡_ {A = ℕ} 0 1 = cc in absurd (omega arith)
-limited-within L (accept m) n e = go (withinLimits L m) refl
-  where
-    go : (b : Bool) → withinLimits L m ≡ b → withinLimits L n ≡ true
-    go true f = let h : accept m ≡ accept n = rw (f, limited) at e in let z : m ≡ n = cc in rw (← z) f
-    go false f = let h : reject 15 ≡ accept n = rw (f, limited) at e in let z : _≡_ {A = ℕ} 0 1 = cc in absurd (omega arith)
-
--- EVERY ACCEPTED EVENT IS WITHIN THE LIMITS.
-pub accepted-within : AcceptedWithin
-unfolding decided
-accepted-within L n l m e = go (firstNo (questions L n l)) refl
-  where
-    go : (k : ℕ) → firstNo (questions L n l) ≡ k → withinLimits L m ≡ true
-    go zero f = limited-within L (handled (l .kind) l (entered l n)) m (rw (f, decided) at e)
-    go (suc k) f = let h : reject (suc k) ≡ accept m = rw (f, decided) at e in let z : _≡_ {A = ℕ} 0 1 = cc in absurd (omega arith)

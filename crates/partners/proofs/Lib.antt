@@ -1,0 +1,4 @@
+pub mod Lines
+pub mod Own
+pub mod Checked
+pub mod Pair
