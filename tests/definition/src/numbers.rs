@@ -1,5 +1,6 @@
 //! A chart as the list of numbers that crates/compare/specs/Dump.antt makes of the definition's.
 
+use crate::walk::{Column, Walk};
 use rufsm::chart::*;
 
 const STATE: u32 = 9001;
@@ -11,6 +12,7 @@ const REGION: u32 = 9006;
 const ENTRY: u32 = 9007;
 const POSITION: u32 = 9008;
 const OPEN: u32 = 9009;
+const ASSIGNS: u32 = 9010;
 
 #[derive(Default)]
 struct Numbers(Vec<u32>);
@@ -71,7 +73,13 @@ impl Numbers {
         self.payload(&row.payload);
     }
 
-    fn state(&mut self, row: &StateRow) {
+    /// The column of `expr`, then the column of the text.
+    fn two_columns(&mut self, value: &Text, column: Column) {
+        let in_column = |wanted: Column| if column == wanted { value.clone() } else { None };
+        self.texts(&[in_column(Column::Expr), in_column(Column::Text)]);
+    }
+
+    fn state(&mut self, row: &StateRow, walk: &Walk) {
         self.put(&[STATE, row.number]);
         self.text(&row.name);
         self.put(&[row.doc, row.initial, row.parent, row.parallel, row.is_final, row.history]);
@@ -79,12 +87,13 @@ impl Numbers {
             self.list(list);
         }
         self.put(&[u32::from(row.donedata.is_some())]);
-        row.donedata.iter().for_each(|payload| self.payload(payload));
+        self.payload(&row.donedata.clone().unwrap_or_default());
         row.invokes.iter().zip(1..).for_each(|(invoke, place)| self.invoke(place, invoke));
         for data in &row.data {
             self.put(&[ITEM]);
             self.present(&data.id);
-            self.text(&data.value);
+            let place = (row.name.clone().unwrap_or_default(), data.id.clone());
+            self.two_columns(&data.value, walk.data.get(&place).copied().unwrap_or(Column::Neither));
         }
     }
 
@@ -143,17 +152,26 @@ impl Numbers {
         self.words(&row.open_tags);
         self.put(&[row.ids, row.docs, row.names]);
     }
+
+    /// The text charge, and for each assign whether the column of `expr` and that of the text are present.
+    fn walk(&mut self, walk: &Walk) {
+        self.put(&[walk.charge as u32, ASSIGNS]);
+        for &column in &walk.assigns {
+            self.put(&[u32::from(column == Column::Expr), u32::from(column == Column::Text)]);
+        }
+    }
 }
 
-pub fn of(chart: &Chart) -> Vec<u32> {
+pub fn of(chart: &Chart, walk: &Walk) -> Vec<u32> {
     let mut out = Numbers::default();
     out.put(&[chart.root, chart.script, chart.binding]);
     out.text(&chart.name);
     out.text(&chart.datamodel);
     out.text(&chart.version);
-    chart.states.iter().for_each(|row| out.state(row));
+    chart.states.iter().for_each(|row| out.state(row, walk));
     chart.transitions.iter().for_each(|row| out.transition(row));
     chart.regions.iter().for_each(|row| out.region(row));
     out.position(&chart.position);
+    out.walk(walk);
     out.0
 }
