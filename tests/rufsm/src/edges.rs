@@ -6,7 +6,7 @@
 use crate::event::{print_all, Event, Kind};
 use crate::nesting;
 
-const WORDS: [(&str, &str); 15] = [
+const WORDS: [(&str, &str); 18] = [
     ("events-star-suffix", "+scxml +state id:a .transition event:foo.*"),
     ("events-star-star", "+scxml +state id:a .transition event:*.*"),
     ("events-dots", "+scxml +state id:a .transition event:a..*"),
@@ -22,9 +22,12 @@ const WORDS: [(&str, &str); 15] = [
     ("type-mixed-case", "+scxml +state id:a .transition type:iNternal"),
     ("type-wrong", "+scxml +state id:a .transition type:internal%20"),
     ("cond-empty", "+scxml +state id:a .transition cond:"),
+    ("events-dot", "+scxml +state id:a .transition event:.%20a%20.."),
+    ("value-with-event", "+scxml +state id:a .transition event:event=open cond:event=%0aevent=end%0aname=x"),
+    ("name-with-event", "+event=x id:event=y -event=x +scxml id:event=open%0aname=scxml"),
 ];
 
-const BRANCHES: [(&str, &str); 10] = [
+const BRANCHES: [(&str, &str); 12] = [
     ("else-inner-if-else", "+scxml +state id:a +onentry +if cond:c .else +if cond:d -if .else"),
     ("else-else", "+scxml +state id:a +onentry +if cond:c .else .else"),
     ("else-inner-else-else", "+scxml +state id:a +onentry +if cond:c .else +if cond:d .else -if .else"),
@@ -35,9 +38,14 @@ const BRANCHES: [(&str, &str); 10] = [
     ("else-elseif", "+scxml +state id:a +onentry +if cond:c .else .elseif cond:e"),
     ("else-if-elseif", "+scxml +state id:a +onentry +if cond:c .else +if cond:d -if .elseif cond:e .else -if"),
     ("foreach-if-foreach", "+scxml +state +onexit +foreach array:r item:i +if cond:c +foreach array: item: index:"),
+    ("elseif-in-foreach", "+scxml +state +onentry +foreach array:r item:i .elseif cond:e"),
+    (
+        "elseif-in-if-in-foreach",
+        "+scxml +state +onentry +foreach array:r item:i +if cond:c .elseif cond:e -if -foreach .raise event:f",
+    ),
 ];
 
-const STATES: [(&str, &str); 26] = [
+const STATES: [(&str, &str); 29] = [
     ("empty-stream", ""),
     ("two-states", "+scxml .state id:a -scxml"),
     ("initial-order", "+scxml +state id:a initial:b"),
@@ -64,9 +72,12 @@ const STATES: [(&str, &str); 26] = [
     ("unknown-after-end", "+scxml -scxml +y .z"),
     ("end-of-nothing", "-scxml"),
     ("end-crossed", "+scxml +state -scxml"),
+    ("child-moves", "+scxml +state id:a .state id:c -state +state id:b .state id:c -state -scxml"),
+    ("history-moves", "+scxml +state id:a .history id:h -state +parallel id:b .history id:h -parallel"),
+    ("generated-ten", "+scxml .state .state .state .state .state .state .state .state .state .state .state -scxml"),
 ];
 
-const CONTENTS: [(&str, &str); 19] = [
+const CONTENTS: [(&str, &str); 24] = [
     ("content-empty-expr", "+scxml +final +donedata .content expr:e"),
     ("content-whole-expr", "+scxml +final +donedata =content expr:e |"),
     ("content-donedata-record", "+scxml +final +donedata .content"),
@@ -89,9 +100,17 @@ const CONTENTS: [(&str, &str); 19] = [
     ("assign-neither", "+scxml +state +onentry .assign location:l"),
     ("script-root", "+scxml =script |%20x%20%0a .script"),
     ("script-control-bytes", "+scxml =script |%00%1f%20x%20%1f%7f"),
+    ("donedata-second-expr", "+scxml +final +donedata .content expr:e -donedata .donedata"),
+    ("donedata-second-text", "+scxml +final id:f +donedata =content |t -donedata -final +final id:f .donedata"),
+    ("data-repeated-expr", "+scxml +datamodel =data id:d |t =data id:e |u .data id:d expr:1"),
+    ("param-empty", "+scxml +state +onentry +send .param name: expr: -send +send .param name:q location:"),
+    (
+        "assign-columns",
+        "+scxml +state +onentry .assign location:l expr:\"e\" =assign location:l |e .assign location: expr:",
+    ),
 ];
 
-const ACTIONS: [(&str, &str); 13] = [
+const ACTIONS: [(&str, &str); 17] = [
     ("finalize-second", "+scxml +state +invoke .finalize +finalize .log expr: -finalize"),
     ("finalize-raise", "+scxml +state +invoke +finalize .raise event:e"),
     ("finalize-if-raise", "+scxml +state +invoke +finalize +if cond: .raise event:"),
@@ -109,6 +128,10 @@ const ACTIONS: [(&str, &str); 13] = [
          namelist:%20x%20%20y%0bz%20x autoforward:TRUE",
     ),
     ("autoforward-blank", "+scxml +state id:a .invoke autoforward:%20true"),
+    ("log-label-empty", "+scxml +state +onentry .log label: expr: .log label:l expr:e"),
+    ("cancel-empty", "+scxml +state +onentry .cancel sendid: .cancel sendidexpr: .cancel sendid:s"),
+    ("foreach-index-empty", "+scxml +state +onentry .foreach array: item: index: .foreach array:r item:i index:j"),
+    ("invoke-second", "+scxml +state +invoke id:i .param name:o -invoke +invoke id:j .param name:p .content expr:e +finalize .log expr:x -finalize"),
 ];
 
 /// One refusal each, for what is missing, stands together or is no word.
