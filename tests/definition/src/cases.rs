@@ -12,6 +12,7 @@ const SMALL: usize = 3000;
 
 /// One claim for the checker, and what is said of it when it is refused.
 pub struct Case {
+    pub name: String,
     /// The type of the claim's record, and the function that must be true of it.
     pub kind: [&'static str; 2],
     pub literal: String,
@@ -33,7 +34,7 @@ impl Case {
         };
         let lines = String::from_utf8_lossy(stream);
         let shown = format!("--- stream {name}: {number} at {event}\n{lines}--- the Rust\n{dump}");
-        Ok(Case { kind, literal, is_small, shown })
+        Ok(Case { name: name.to_string(), kind, literal, is_small, shown })
     }
 
     /// A place and the events tried there.
@@ -50,6 +51,7 @@ impl Case {
             .map(|(tried, i)| format!("{i}: {} {} {}\n", tried.event.kind.word(), tried.event.name, tried.number))
             .collect();
         Case {
+            name: format!("in <{}>", place.parent),
             kind: ["Place", "placeRight"],
             literal,
             is_small: true,

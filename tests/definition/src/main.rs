@@ -75,6 +75,9 @@ fn report(group: &Group, first: usize, refused: &BTreeMap<usize, Refusal>) -> Ve
     let different = ours.iter().filter(|(_, refusal)| *refusal == Refusal::Different).count();
     let (count, stopped) = (group.cases.len(), ours.len() - different);
     println!("{}: {count} cases, different: {different}, not evaluated: {stopped}", group.name);
+    for (place, _) in ours.iter().filter(|(_, refusal)| *refusal == Refusal::StepLimit) {
+        println!("  not evaluated, the checker's step limit: {}", group.cases[*place].name);
+    }
     let red = |(place, refusal): &(usize, Refusal)| *refusal == Refusal::Different || group.cases[*place].is_small;
     ours.into_iter().filter(red).map(|(place, _)| place).collect()
 }

@@ -131,3 +131,26 @@ pub fn evaluate(cases: &[&Case]) -> Result<BTreeMap<usize, Refusal>, String> {
     }
     Ok(found)
 }
+
+#[cfg(test)]
+mod tests {
+    use super::*;
+
+    /// As the checker prints them: a claim broken off, and one that is not so.
+    #[test]
+    fn step_limit_is_no_difference() {
+        let output = "\
+A.antt:171:5: error: `right70`: in its elaboration (it was elaborating the text at 173:11–173:15): stopped at the step limit (50000000 steps a task)
+  of its 50000000 steps, 99% went to comparisons
+A.antt:30:6: error: `right5`: expected type `right case5 ≡ true`, but this has type `right case5 ≡ right case5`
+  neither could be computed (expected: computing it took more than 200000 steps)
+";
+        let found: Vec<_> = refusals(output).into_iter().collect();
+        assert_eq!(found, [(5, Refusal::Different), (70, Refusal::StepLimit)]);
+    }
+
+    #[test]
+    fn a_proved_run_names_no_claim() {
+        assert!(refusals("rt: batch0 proved (7 s)\nrt: ok, 3 crates proved\n").is_empty());
+    }
+}

@@ -108,3 +108,35 @@ fn text_charge(name: &str, length: usize) -> usize {
         length
     }
 }
+
+#[cfg(test)]
+mod tests {
+    use super::*;
+    use rufsm::edges::lines;
+
+    #[test]
+    fn values_texts_and_generated_names_are_charged() {
+        let charge = |short: &str| over(&lines(short)).charge;
+        assert_eq!(charge("+scxml"), "__id1".len());
+        assert_eq!(charge("+scxml id:r name:n any:xyz +state id:r -state"), 6);
+        assert_eq!(charge("+scxml id: =script |%20x%0a"), 3);
+        assert_eq!(charge("+scxml id: =assign location:l |yy"), 1 + 2 * 2 + 2);
+    }
+
+    #[test]
+    fn the_last_data_of_an_id_in_a_state_counts() {
+        let walk =
+            over(&lines("+scxml id:r +datamodel =data id:d |t .data id:e expr:1 .data id:d expr:2 =data id:e |u"));
+        let column = |id: &str| walk.data[&("r".to_string(), id.to_string())];
+        assert_eq!((column("d"), column("e")), (Column::Expr, Column::Text));
+    }
+
+    #[test]
+    fn the_33rd_open_element_is_too_deep() {
+        let open = |count: usize| "+x ".repeat(count);
+        assert_eq!(too_deep(&lines(&open(32))), None);
+        assert_eq!(too_deep(&lines(&(open(32) + "-x +x"))), None);
+        assert_eq!(too_deep(&lines(&(open(32) + "=script |"))), Some((33, TOO_DEEP)));
+        assert_eq!(too_deep(&lines(&(open(31) + ".x .x +x .x"))), Some((35, TOO_DEEP)));
+    }
+}
