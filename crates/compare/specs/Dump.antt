@@ -32,7 +32,9 @@ use Rattle.definition.specs.Rows.{
   listed,
   valuesOf,
 }
+use Rattle.definition.specs.declared.Position.{Position}
 use Rattle.definition.specs.Look.{openName}
+use Rattle.definition.specs.Reader.{positionOf}
 
 -- A mark before each row, so that rows of two kinds are never taken for one another.
 abbrev mark : record {
@@ -262,12 +264,20 @@ module _ (s : Store) where
   openTags [] = []
   openTags (r ∷ rs) = elim (num r (openRegion .tag)) [ zero ↦ [] | suc g ↦ getD elementNames g [] ] ∷ openTags rs
 
+  -- How many rows of each table are in use, the current region, what is drawn from the counters, and the text charge, as the position that is given back
+  -- has them. How much text is in use the papers leave free.
+  unfoldable pub counted : List ℕ
+  unfolding positionOf
+  counted =
+      let p : Position = positionOf s in
+      p .opened ∷ p .states ∷ p .transitions ∷ p .regions ∷ p .entries ∷ p .invokes ∷ p .datums ∷ p .parameters ∷ p .members ∷ p .«open_regions» ∷ p .current .0
+      ∷ p .ids ∷ p .docs ∷ p .names ∷ p .charge ∷ []
+
   unfoldable pub position : List ℕ
-  unfolding openRows rowsOf withLength columnOf wordList openTags
+  unfolding counted openRows rowsOf withLength columnOf wordList openTags
   position =
-      (mark .position ∷ length (rowsOf (table .opened)) ∷ openRows (rowsOf (table .opened)) (rowsOf (table .openNames)))
-      ++ (s .numbers .current ∷ withLength (columnOf (openRegion .region) (rowsOf (table .openRegions)))) ++ wordList (openTags (rowsOf (table .openRegions)))
-      ++ s .numbers .ids ∷ s .numbers .docs ∷ s .numbers .names ∷ s .numbers .charge ∷ []
+      (mark .position ∷ counted) ++ openRows (rowsOf (table .opened)) (rowsOf (table .openNames))
+      ++ withLength (columnOf (openRegion .region) (rowsOf (table .openRegions))) ++ wordList (openTags (rowsOf (table .openRegions)))
 
   -- ---- what the judge's dump does not show
 

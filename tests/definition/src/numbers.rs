@@ -140,25 +140,63 @@ impl Numbers {
         row.entries.iter().for_each(|entry| self.entry(entry));
     }
 
+    /// How many rows of each table are in use, the current region, the counters and the text charge.
+    fn counted(&mut self, chart: &Chart, walk: &Walk) {
+        let (position, all) = (&chart.position, Counts::of(chart));
+        let sizes = [position.open.len(), chart.states.len(), chart.transitions.len(), chart.regions.len()];
+        sizes.iter().for_each(|&size| self.put(&[size as u32]));
+        for size in [all.entries, all.invokes, all.data, walk.parameters, all.members, position.open_regions.len()] {
+            self.put(&[size as u32]);
+        }
+        self.put(&[position.current, position.ids, position.docs, position.names, walk.charge as u32]);
+    }
+
     fn position(&mut self, row: &Position) {
-        self.put(&[POSITION, row.open.len() as u32]);
         for open in &row.open {
             self.put(&[OPEN]);
             self.bytes(&open.tag);
             self.put(&[open.state, open.transition]);
         }
-        self.put(&[row.current]);
         self.list(&row.open_regions);
         self.words(&row.open_tags);
-        self.put(&[row.ids, row.docs, row.names]);
     }
 
-    /// The text charge, and for each assign whether the column of `expr` and that of the text are present.
-    fn walk(&mut self, walk: &Walk) {
-        self.put(&[walk.charge as u32, ASSIGNS]);
+    /// For each assign whether the column of `expr` and that of the text are present.
+    fn assigns(&mut self, walk: &Walk) {
+        self.put(&[ASSIGNS]);
         for &column in &walk.assigns {
             self.put(&[u32::from(column == Column::Expr), u32::from(column == Column::Text)]);
         }
+    }
+}
+
+/// Rows that the dump shows under others, counted over all.
+#[derive(Default)]
+struct Counts {
+    entries: usize,
+    invokes: usize,
+    data: usize,
+    members: usize,
+}
+
+impl Counts {
+    fn of(chart: &Chart) -> Counts {
+        let mut all = Counts::default();
+        for row in &chart.states {
+            all.invokes += row.invokes.len();
+            all.data += row.data.len();
+            let lists = [&row.children, &row.histories, &row.onentry, &row.onexit, &row.transitions];
+            all.members += lists.iter().map(|list| list.len()).sum::<usize>();
+            all.members += row.invokes.iter().map(|invoke| invoke.namelist.len()).sum::<usize>();
+        }
+        all.members += chart.transitions.iter().map(|row| row.targets.len() + row.events.len()).sum::<usize>();
+        for entry in chart.regions.iter().flat_map(|row| &row.entries) {
+            all.entries += 1;
+            if let Entry::Send { namelist, .. } = entry {
+                all.members += namelist.len();
+            }
+        }
+        all
     }
 }
 
@@ -171,7 +209,9 @@ pub fn of(chart: &Chart, walk: &Walk) -> Vec<u32> {
     chart.states.iter().for_each(|row| out.state(row, walk));
     chart.transitions.iter().for_each(|row| out.transition(row));
     chart.regions.iter().for_each(|row| out.region(row));
+    out.put(&[POSITION]);
+    out.counted(chart, walk);
     out.position(&chart.position);
-    out.walk(walk);
+    out.assigns(walk);
     out.0
 }

@@ -1,5 +1,6 @@
-//! What document 01 says of a stream where the Rust shows nothing: its limit of open elements, its text charge, and
-//! whether a value of data or assign came from `expr` or from the text (two columns here, one value in the Rust).
+//! What document 01 says of a stream where the Rust shows nothing: its limit of open elements, its text charge, how
+//! many parameters there were, and whether a value of data or assign came from `expr` or from the text (two columns
+//! here, one value in the Rust).
 
 use rufsm::event::{self, Event, Kind};
 use std::collections::HashMap;
@@ -22,6 +23,8 @@ pub enum Column {
 #[derive(Default)]
 pub struct Walk {
     pub charge: usize,
+    /// Parameters, those of a donedata that another replaced too: they "still count".
+    pub parameters: usize,
     /// By the state's name and the data's id.
     pub data: HashMap<(String, String), Column>,
     /// In the order of the events.
@@ -72,6 +75,7 @@ impl Walk {
                 let column = if event.value("expr").is_some() { Column::Expr } else { Column::Text };
                 self.data.insert((state.clone(), id), column);
             }
+            "param" => self.parameters += 1,
             "assign" => self.assigns.push(match event.kind {
                 Kind::Whole => Column::Text,
                 _ if event.value("expr").is_some() => Column::Expr,

@@ -134,6 +134,45 @@ const ACTIONS: [(&str, &str); 17] = [
     ("invoke-second", "+scxml +state +invoke id:i .param name:o -invoke +invoke id:j .param name:p .content expr:e +finalize .log expr:x -finalize"),
 ];
 
+/// Every text that a row keeps, empty and with letters of its own: absent is not empty where the Rust tells them apart.
+const TEXTS: [(&str, &str); 7] = [
+    (
+        "empty-send",
+        "+scxml +state +onentry .send event: target: type: id: delayexpr: namelist: \
+         .send eventexpr: targetexpr: typeexpr: idlocation: +send .content expr: .param name: location:",
+    ),
+    (
+        "empty-invoke",
+        "+scxml +state +invoke type: typeexpr: src: srcexpr: id: idlocation: namelist: autoforward: \
+         .content expr: .param name: expr:",
+    ),
+    (
+        "empty-entries",
+        "+scxml +state +onentry .raise event: .assign location: expr: .log label: expr: .script .foreach array: item: \
+         +if cond: .elseif cond:",
+    ),
+    (
+        "empty-others",
+        "+scxml name: datamodel: version: +datamodel .data id: expr: -datamodel +final +donedata .content expr: \
+         -donedata -final +state .transition cond: event: target:",
+    ),
+    (
+        "filled-send",
+        "+scxml +state +onentry .send event:a target:b type:c id:d delayexpr:e namelist:f \
+         .send eventexpr:g targetexpr:h typeexpr:i idlocation:j +send =content |%20k%20 .param name:l expr:m",
+    ),
+    (
+        "filled-invoke",
+        "+scxml +state +invoke type:a typeexpr:b src:c srcexpr:d id:e idlocation:f namelist:g autoforward:true \
+         =content |%0ah%0b .param name:i expr:j .param name:k location:l",
+    ),
+    (
+        "filled-others",
+        "+scxml name:a datamodel:b version:c =script |%09d%20 +datamodel .data id:e expr:f =data id:g |%0ch%0d -datamodel \
+         +final +donedata =content |%20i%20 -donedata -final +state .transition cond:j event:k target:l",
+    ),
+];
+
 /// One refusal each, for what is missing, stands together or is no word.
 const REFUSED: [(&str, &str); 27] = [
     ("missing-data-id", "+scxml +datamodel .data expr:1"),
@@ -253,7 +292,8 @@ fn limits() -> Vec<(String, Vec<u8>)> {
 
 /// All of them, by name.
 pub fn all() -> Vec<(String, Vec<u8>)> {
-    let short = WORDS.iter().chain(&BRANCHES).chain(&STATES).chain(&CONTENTS).chain(&ACTIONS).chain(&REFUSED);
+    let short =
+        WORDS.iter().chain(&BRANCHES).chain(&STATES).chain(&CONTENTS).chain(&ACTIONS).chain(&TEXTS).chain(&REFUSED);
     let listed = short.map(|(name, short)| (name.to_string(), lines(short)));
     let broken = BROKEN.iter().map(|(name, raw)| (name.to_string(), raw.as_bytes().to_vec()));
     listed.chain(misplaced()).chain(limits()).chain(broken).collect()
