@@ -1,6 +1,6 @@
 -- Streams from lent slices: the number, the event that is refused, the whole reading position that comes back, and what the chart holds then. "In a stream
 -- an event runs to the next line beginning `event=` or to the end."
-use Prim.Native.Nat.{ℕ}
+use Prim.Native.Nat.{ℕ, suc}
 use Prim.Native.String.{String}
 use mathlib.Core.Bool.{Bool, _&&_}
 use mathlib.Core.List.{List, [], _∷_, _++_}
@@ -118,10 +118,20 @@ fromStores =
     ∷ fromMade (
     inside (tag .state) 1 0 4 ++ field (position .openRegions) 2 ∷ cell (table .opened) 2 (opened .tag) (tag .if) ∷ []) "event=open\nname=onentry\n" 0 0 (
     4 ∷ 2 ∷ 2 ∷ 6 ∷ 4 ∷ 1 ∷ 1 ∷ 4 ∷ 9 ∷ 0 ∷ 8 ∷ 8 ∷ 4 ∷ 2 ∷ 12 ∷ 14 ∷ []) (number (table .regions) 8 0 8 ∷ [])
-    -- The first scxml stands anywhere, inside a state too: it has no parent, and is nobody's child.
-    ∷ fromMade (cell (table .chart) 1 (chart .root) 0 ∷ inside (tag .state) 1 0 4) "event=open\nname=scxml\n" 0 0 (
-    4 ∷ 3 ∷ 2 ∷ 5 ∷ 4 ∷ 1 ∷ 1 ∷ 4 ∷ 9 ∷ 0 ∷ 4 ∷ 7 ∷ 5 ∷ 3 ∷ 17 ∷ 19 ∷ []) (
+    -- The first scxml stands anywhere, inside a state too: it has no parent, and is nobody's child. Texts of the chart that it does not give stay.
+    ∷ fromMade (
+    cell (table .chart) 1 (chart .root) 0
+    ∷ cell (table .chart) 1 (chart .datamodel) 3
+    ∷ cell (table .chart) 1 (suc (chart .datamodel)) 1
+    ∷ cell (table .chart) 1 (chart .version) 4
+    ∷ cell (table .chart) 1 (suc (chart .version)) 1
+    ∷ inside (tag .state) 1 0 4) "event=open\nname=scxml\n" 0 0 (4 ∷ 3 ∷ 2 ∷ 5 ∷ 4 ∷ 1 ∷ 1 ∷ 4 ∷ 9 ∷ 0 ∷ 4 ∷ 7 ∷ 5 ∷ 3 ∷ 17 ∷ 19 ∷ []) (
     number (table .chart) 1 (chart .root) 3
+    ∷ name (table .chart) 1 (chart .name) "ab"
+    ∷ name (table .chart) 1 (chart .datamodel) "c"
+    ∷ name (table .chart) 1 (chart .version) "d"
+    ∷ number (table .chart) 1 (chart .script) 5
+    ∷ number (table .chart) 1 (chart .binding) 1
     ∷ number (table .states) 3 (state .parent) 0
     ∷ number (table .opened) 4 (opened .state) 3
     ∷ members (list .children) 1 (2 ∷ [])
