@@ -90,6 +90,15 @@ fn table_of(streams: &[Judged], first: usize, refused: &BTreeMap<usize, Refusal>
     table
 }
 
+/// Says what they have of the table; with `--cover` what is missing is a fault.
+fn coverage(options: &Options, table: &Table) -> Option<String> {
+    print!("{}", if options.has("--table") { table.print() } else { String::new() });
+    let missing = table.missing();
+    println!("of the generator's table: {} of {}", table.counts.len() - missing.len(), table.counts.len());
+    let is_fault = options.has("--cover") && !missing.is_empty();
+    is_fault.then(|| format!("missing of the generator's table: {}", missing.join(", ")))
+}
+
 fn compare(options: &Options) -> Result<(), String> {
     let begin = Instant::now();
     let mut groups = recorded(options)?;
@@ -97,31 +106,21 @@ fn compare(options: &Options) -> Result<(), String> {
     if let Some((name, streams)) = &streams {
         groups.push(sources::group(name.clone(), streams)?);
     }
-    let firsts: Vec<usize> = groups
-        .iter()
-        .scan(0, |next, group| {
-            let first = *next;
-            *next += group.cases.len();
-            Some(first)
-        })
-        .collect();
     let cases: Vec<&Case> = groups.iter().flat_map(|group| &group.cases).collect();
+    if cases.is_empty() {
+        return Err(USAGE.to_string());
+    }
     let refused = scratch::evaluate(&cases)?;
-    let mut faults = Vec::new();
-    for (group, first) in groups.iter().zip(&firsts) {
-        for place in report(group, *first, &refused) {
+    let (mut faults, mut first) = (Vec::new(), 0);
+    for group in &groups {
+        for place in report(group, first, &refused) {
             let why = refused[&(first + place)];
             faults.push(format!("{}: {why:?}\n{}", group.name, group.cases[place].shown));
         }
+        first += group.cases.len();
     }
     if let Some((_, streams)) = &streams {
-        let table = table_of(streams, cases.len() - streams.len(), &refused);
-        print!("{}", if options.has("--table") { table.print() } else { String::new() });
-        let missing = table.missing();
-        println!("of the generator's table: {} of {}", table.counts.len() - missing.len(), table.counts.len());
-        if options.has("--cover") && !missing.is_empty() {
-            faults.push(format!("missing of the generator's table: {}", missing.join(", ")));
-        }
+        faults.extend(coverage(options, &table_of(streams, first - streams.len(), &refused)));
     }
     println!("cases: {}, red: {}, seconds: {:.0}", cases.len(), faults.len(), begin.elapsed().as_secs_f64());
     if faults.is_empty() {
