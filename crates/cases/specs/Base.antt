@@ -23,12 +23,13 @@ use Rattle.definition.specs.Rows.{
   member,
   opened,
   openRegion,
+  blank,
 }
 use Rattle.definition.specs.Change.{Put, _≔_}
 use Rattle.cases.specs.Made.{Made, made}
 
 -- A text column's two numbers: the text begins at i, from 1, and has n bytes.
-abbrev lies : ℕ → ℕ → ℕ → List Put
+abbrev pub lies : ℕ → ℕ → ℕ → List Put
 lies c i n = c ≔ i ∷ suc c ≔ n ∷ []
 
 -- a b c d e f g h i j k l
@@ -145,4 +146,27 @@ good =
           ∷ [];
       text = text ++ replicate 28 200;
       position = 3 ∷ 2 ∷ 2 ∷ 5 ∷ 4 ∷ 1 ∷ 1 ∷ 4 ∷ 9 ∷ 2 ∷ 4 ∷ 7 ∷ 4 ∷ 2 ∷ 12 ∷ 14 ∷ [];
+    }
+
+-- "The empty chart", in slices of zeros of the good store's lengths.
+abbrev pub zeros : Made
+zeros =
+    record {
+      limits = good .limits;
+      tables =
+          replicate 1 (blank 0)
+          ∷ replicate 4 (blank 1)
+          ∷ replicate 4 (blank 2)
+          ∷ replicate 8 (blank 3)
+          ∷ replicate 6 (blank 4)
+          ∷ replicate 2 (blank 5)
+          ∷ replicate 2 (blank 6)
+          ∷ replicate 5 (blank 7)
+          ∷ replicate 14 (blank 8)
+          ∷ replicate 5 (blank 9)
+          ∷ replicate 5 (blank 10)
+          ∷ replicate 10 (blank 11)
+          ∷ [];
+      text = replicate 40 0;
+      position = replicate 16 0;
     }

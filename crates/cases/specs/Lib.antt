@@ -4,4 +4,5 @@ pub mod Lent
 pub mod Internal
 pub mod Bounds
 pub mod Readings
+pub mod Streams
 pub mod Calls

@@ -338,13 +338,17 @@ unfoldable pub breaksOnly : Limits → Lent → Position → ℕ → List Clause
 unfolding sameClauses broken
 breaksOnly L x p k cs = elim (leb 1 k && leb k 2) [ true ↦ sameClauses (broken L x p) cs | false ↦ true ]
 
+-- A row as it is read, from one without the zeros at its end.
+unfoldable pub shownRow : Row → Row
+shownRow r = take (shown .width) (r ++ replicate (shown .width) 0)
+
 unfoldable pub right : Case → Bool
-unfolding call limitsOf positionFrom breaksOnly same leaves holdsAll storeOf
+unfolding call limitsOf positionFrom breaksOnly same shownRow leaves holdsAll storeOf
 right c =
     let m : Made = c .made in
     let L : Limits = limitsOf (m .limits) in
     let x : Lent = record { tables = m .tables; text = m .text } in
     let p : Position = positionFrom (m .position) in
     let a : Answer = call L x p (c .call) in
-    eqb (a .number) (c .answer) && breaksOnly L x p (c .answer) (c .breaks) && same (a .row) (take (shown .width) (c .row ++ replicate (shown .width) 0)) && leaves m (c .call) a
+    eqb (a .number) (c .answer) && breaksOnly L x p (c .answer) (c .breaks) && same (a .row) (shownRow (c .row)) && leaves m (c .call) a
     && holdsAll (storeOf (a .lent) (a .position)) (c .holds)

@@ -1,15 +1,17 @@
 -- "Reading a row, by kind and number, puts 1, 2 and 16 only; rows that have no number of their own are numbered by creation from 1." Every kind of row once.
-use Prim.Native.Nat.{ℕ}
+use Prim.Native.Nat.{ℕ, suc}
 use Prim.Native.String.{String}
-use mathlib.Core.Bool.{Bool}
-use mathlib.Core.List.{List, [], _∷_, _++_, map}
+use mathlib.Core.Bool.{Bool, true, false, _&&_}
+use mathlib.Core.List.{List, [], _∷_, _++_}
 use lib.ListN.{getD, replicate}
+use lib.Dec.{eqb}
 use Rattle.definition.specs.Text.{str, same}
 use Rattle.definition.specs.Elements.{tag}
-use Rattle.definition.specs.Rows.{Row, Table, table, chart, blank}
+use Rattle.definition.specs.Rows.{Row, Table, table, list, ownerKind, entryKind, chart, state, transition, entry, datum, parameter, member, blank}
+use Rattle.definition.specs.Change.{_≔_}
 use Rattle.definition.specs.Reader.{Call, event, reading, Answer, run}
-use Rattle.cases.specs.Made.{Made, limitsOf, positionFrom, cell, alteredBy, Case}
-use Rattle.cases.specs.Base.{good, chartRow, states, transitions, regions, entries, invokes, datums, parameters, members}
+use Rattle.cases.specs.Made.{Made, made, limitsOf, positionFrom, cell, alteredBy, shownRow, Case}
+use Rattle.cases.specs.Base.{lies, good, zeros, chartRow, states, transitions, regions, entries, invokes, datums, parameters, members}
 use Rattle.cases.specs.Internal.{inside}
 
 abbrev reads : ℕ → ℕ → Row → Case
@@ -75,40 +77,35 @@ readings =
 
 -- ---- calls one after another
 
--- The numbers that a list of calls gets.
+-- What a call is answered: the number, and the row as it is read, without zeros at its end.
+pub record Told : Type 0 where
+  pub number : ℕ
+  pub row : Row
+
+-- An event, or a reading that is refused: no row.
+abbrev told : ℕ → Told
+told k = record { number = k; row = [] }
+
+abbrev shows : Row → Told
+shows r = record { number = 0; row = r }
+
 pub record Run : Type 0 where
   pub made : Made
   pub calls : List Call
-  pub answers : List ℕ
+  pub answers : List Told
+
+unfoldable pub allTold : List Answer → List Told → Bool
+unfolding same shownRow
+allTold [] [] = true
+allTold [] (t ∷ ts) = false
+allTold (a ∷ as′) [] = false
+allTold (a ∷ as′) (t ∷ ts) = eqb (a .number) (t .number) && same (a .row) (shownRow (t .row)) && allTold as′ ts
 
 unfoldable pub runRight : Run → Bool
-unfolding run limitsOf positionFrom same
+unfolding run limitsOf positionFrom allTold
 runRight x =
-    same (map (λ (a : Answer). a .number) (run (limitsOf (x .made .limits)) (record { tables = x .made .tables; text = x .made .text }) (positionFrom (x .made .position)) (x .calls)))
+    allTold (run (limitsOf (x .made .limits)) (record { tables = x .made .tables; text = x .made .text }) (positionFrom (x .made .position)) (x .calls))
     (x .answers)
-
--- "The empty chart", in slices of zeros of the good store's lengths.
-abbrev zeros : Made
-zeros =
-    record {
-      limits = good .limits;
-      tables =
-          replicate 1 (blank 0)
-          ∷ replicate 4 (blank 1)
-          ∷ replicate 4 (blank 2)
-          ∷ replicate 8 (blank 3)
-          ∷ replicate 6 (blank 4)
-          ∷ replicate 2 (blank 5)
-          ∷ replicate 2 (blank 6)
-          ∷ replicate 5 (blank 7)
-          ∷ replicate 14 (blank 8)
-          ∷ replicate 5 (blank 9)
-          ∷ replicate 5 (blank 10)
-          ∷ replicate 10 (blank 11)
-          ∷ [];
-      text = replicate 40 0;
-      position = replicate 16 0;
-    }
 
 abbrev feeds : String → Call
 feeds e = event (str e)
@@ -116,21 +113,54 @@ feeds e = event (str e)
 abbrev feedsParam : Call
 feedsParam = feeds "event=empty\nname=param\nkey=name\nvalue=p\n"
 
+-- A parameter of state 2's donedata, its name of one byte at i.
+abbrev ofDonedata : ℕ → Row
+ofDonedata i = made (table .parameters) ((parameter .kind ≔ ownerKind .donedata ∷ parameter .owner ≔ 2 ∷ []) ++ lies (parameter .name) i 1)
+
 unfoldable pub runs : List Run
-unfolding alteredBy good str blank
+unfolding alteredBy good str blank made
 runs =
     -- "A second donedata in a final begins empty; the parameters of the first leave the chart (reading one gives 16) but keep their numbers and still count."
     record {
-      made = alteredBy (inside (tag .final) 2 0 4) good;
-      calls = reading 7 2 ∷ feeds "event=open\nname=donedata\n" ∷ reading 7 2 ∷ reading 7 3 ∷ feedsParam ∷ reading 7 5 ∷ reading 7 2 ∷ feedsParam ∷ reading 7 5 ∷ [];
-      answers = 0 ∷ 0 ∷ 16 ∷ 0 ∷ 0 ∷ 0 ∷ 16 ∷ 15 ∷ 0 ∷ [];
+      made = alteredBy (cell (table .states) 2 (state .expr) 4 ∷ cell (table .states) 2 (suc (state .expr)) 1 ∷ inside (tag .final) 2 0 4) good;
+      calls =
+          reading 7 2 ∷ feeds "event=open\nname=donedata\n" ∷ reading 1 2 ∷ reading 7 2 ∷ reading 7 3 ∷ feedsParam ∷ reading 7 5 ∷ reading 7 2 ∷ feedsParam ∷ reading 7 5 ∷ [];
+      answers =
+          shows (place parameters 1)
+          ∷ told 0
+          ∷ shows (made (table .states) (lies (state .name) 2 1 ++ state .doc ≔ 2 ∷ state .parent ≔ 1 ∷ state .final ≔ 1 ∷ state .donedata ≔ 5 ∷ []))
+          ∷ told 16
+          ∷ shows (place parameters 2)
+          ∷ told 0
+          ∷ shows (ofDonedata 13)
+          ∷ told 16
+          ∷ told 15
+          ∷ shows (ofDonedata 13)
+          ∷ [];
     }
     ∷ record {
       made = zeros;
       calls =
           reading 0 1 ∷ reading 1 1 ∷ feeds "event=open\nname=scxml\n" ∷ reading 0 1 ∷ reading 1 1 ∷ feeds "event=open\nname=final\n" ∷ feeds "event=open\nname=donedata\n" ∷ feedsParam
           ∷ reading 7 1 ∷ feeds "event=end\nname=donedata\n" ∷ feeds "event=open\nname=donedata\n" ∷ reading 7 1 ∷ reading 7 2 ∷ feedsParam ∷ reading 7 1 ∷ reading 7 2 ∷ [];
-      answers = 16 ∷ 16 ∷ 0 ∷ 0 ∷ 0 ∷ 0 ∷ 0 ∷ 0 ∷ 0 ∷ 0 ∷ 0 ∷ 16 ∷ 16 ∷ 0 ∷ 16 ∷ 0 ∷ [];
+      answers =
+          told 16
+          ∷ told 16
+          ∷ told 0
+          ∷ shows (made (table .chart) (chart .root ≔ 1 ∷ []))
+          ∷ shows (made (table .states) (lies (state .name) 1 5 ++ state .doc ≔ 1 ∷ []))
+          ∷ told 0
+          ∷ told 0
+          ∷ told 0
+          ∷ shows (ofDonedata 11)
+          ∷ told 0
+          ∷ told 0
+          ∷ told 16
+          ∷ told 16
+          ∷ told 0
+          ∷ told 16
+          ∷ shows (ofDonedata 12)
+          ∷ [];
     }
     -- A refusal leaves all as it was: the next event is answered as if it had not been.
     ∷ record {
@@ -138,6 +168,41 @@ runs =
       calls =
           feeds "event=open\nname=scxml\n" ∷ feeds "event=open\nname=transition\nkey=target\nvalue=a b\n" ∷ reading 1 2 ∷ feeds "event=open\nname=state\nkey=id\nvalue=a\n" ∷ reading 1 2 ∷ reading 1 3
           ∷ feeds "event=end\nname=scxml\n" ∷ feeds "event=end\nname=state\n" ∷ feeds "event=end\nname=scxml\n" ∷ reading 2 1 ∷ reading 8 2 ∷ [];
-      answers = 0 ∷ 8 ∷ 16 ∷ 0 ∷ 0 ∷ 16 ∷ 5 ∷ 0 ∷ 0 ∷ 0 ∷ 0 ∷ [];
+      answers =
+          told 0
+          ∷ told 8
+          ∷ told 16
+          ∷ told 0
+          ∷ shows (made (table .states) (lies (state .name) 6 1 ++ state .doc ≔ 2 ∷ state .parent ≔ 1 ∷ []))
+          ∷ told 16
+          ∷ told 5
+          ∷ told 0
+          ∷ told 0
+          ∷ shows (made (table .transitions) (transition .number ≔ 1 ∷ transition .source ≔ 1 ∷ []))
+          ∷ shows (made (table .members) (member .list ≔ list .targets ∷ member .owner ≔ 1 ∷ member .value ≔ 2 ∷ []))
+          ∷ [];
+    }
+    -- A new send, and data repeated: with expr in place of its text, and with a text in place of its expr.
+    ∷ record {
+      made = alteredBy (inside (tag .onentry) 2 0 4) good;
+      calls = feeds "event=empty\nname=send\nkey=event\nvalue=e\n" ∷ reading 4 5 ∷ [];
+      answers =
+          told 0
+          ∷ shows (
+          made (table .entries) (
+          (entry .region ≔ 4 ∷ entry .kind ≔ entryKind .send ∷ entry .state ≔ 2 ∷ []) ++ lies (entry .event) 13 1) ++ 2 ∷ 1 ∷ [])
+          ∷ [];
+    }
+    ∷ record {
+      made = alteredBy (inside (tag .datamodel) 1 0 4) good;
+      calls =
+          feeds "event=whole\nname=data\nkey=id\nvalue=i\ntext= tt\n" ∷ reading 6 1 ∷ feeds "event=empty\nname=data\nkey=id\nvalue=i\nkey=expr\nvalue=e\n" ∷ reading 6 1 ∷ reading 6 2 ∷ [];
+      answers =
+          told 0
+          ∷ shows (made (table .datums) ((datum .state ≔ 1 ∷ []) ++ lies (datum .id) 13 1 ++ lies (datum .text) 15 2))
+          ∷ told 0
+          ∷ shows (made (table .datums) ((datum .state ≔ 1 ∷ []) ++ lies (datum .id) 17 1 ++ lies (datum .expr) 18 1))
+          ∷ told 16
+          ∷ [];
     }
     ∷ []

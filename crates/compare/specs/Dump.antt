@@ -9,6 +9,7 @@ use Rattle.definition.specs.Rows.{
   Row,
   Table,
   table,
+  entryKind,
   ownerKind,
   list,
   chart,
@@ -31,7 +32,9 @@ use Rattle.definition.specs.Rows.{
   listed,
   valuesOf,
 }
+use Rattle.definition.specs.declared.Position.{Position}
 use Rattle.definition.specs.Look.{openName}
+use Rattle.definition.specs.Reader.{positionOf}
 
 -- A mark before each row, so that rows of two kinds are never taken for one another.
 abbrev mark : record {
@@ -44,6 +47,7 @@ abbrev mark : record {
   entry : ℕ;
   position : ℕ;
   opens : ℕ;
+  assigns : ℕ;
 }
 mark =
     record {
@@ -56,6 +60,7 @@ mark =
       entry = 9007;
       position = 9008;
       opens = 9009;
+      assigns = 9010;
     }
 
 unfoldable pub withLength : List ℕ → List ℕ
@@ -129,14 +134,12 @@ module _ (s : Store) where
 
   -- ---- states
 
+  -- Without a donedata there is no content and no parameter either.
   unfoldable pub donedata : ℕ → Row → List ℕ
-  unfolding nums txts params
+  unfolding txts params
   donedata i r =
-      elim (eqb (num r (state .donedata)) 0) [
-        | true ↦ 0 ∷ []
-        | false ↦
-            1 ∷ num r (state .hasContent) ∷ txts r (state .text ∷ state .expr ∷ []) ++ params (ownerKind .donedata) i (num r (state .donedata))
-      ]
+      elim (num r (state .donedata)) [ zero ↦ 0 | suc m ↦ 1 ] ∷ num r (state .hasContent) ∷ txts r (state .text ∷ state .expr ∷ [])
+      ++ params (ownerKind .donedata) i (num r (state .donedata))
 
   unfoldable pub invokeRow : ℕ → ℕ → Row → List ℕ
   unfolding nums txts params wordsIn stateName
@@ -172,14 +175,10 @@ module _ (s : Store) where
   datumsOf o [] = []
   datumsOf o (r ∷ rs) = elim (eqb (num r (datum .state)) o) [ true ↦ sorted r (datumsOf o rs) | false ↦ datumsOf o rs ]
 
-  -- One of two columns has the value.
-  unfoldable pub eitherText : Row → ℕ → ℕ → List ℕ
-  unfolding txt
-  eitherText r c d = elim (eqb (num r c) 0) [ true ↦ txt r d | false ↦ txt r c ]
-
+  -- A value is in one of two columns; the other is absent.
   unfoldable pub datumRow : Row → List ℕ
-  unfolding txt eitherText
-  datumRow r = mark .datum ∷ txt r (datum .id) ++ eitherText r (datum .expr) (datum .text)
+  unfolding txts
+  datumRow r = mark .datum ∷ txts r (datum .id ∷ datum .expr ∷ datum .text ∷ [])
 
   unfoldable pub stateRow : ℕ → Row → List ℕ
   unfolding txt nums numbersIn donedata invokesOf datumsOf datumRow concat rowsOf
@@ -210,6 +209,11 @@ module _ (s : Store) where
       entry .event ∷ entry .eventexpr ∷ entry .target ∷ entry .targetexpr ∷ entry .type ∷ entry .typeexpr ∷ entry .id ∷ entry .idlocation ∷ entry .delayexpr ∷ [])
       ++ stateName (num r (entry .state)) ++ wordsIn (list .sendNames) i ++ (num r (entry .hasContent) ∷ txts r (entry .text ∷ entry .expr ∷ []))
       ++ params (ownerKind .send) i 0
+
+  -- An assign's value, in one of two columns; which one, `assignColumns` shows.
+  unfoldable pub eitherText : Row → ℕ → ℕ → List ℕ
+  unfolding txt
+  eitherText r c d = elim (eqb (num r c) 0) [ true ↦ txt r d | false ↦ txt r c ]
 
   unfoldable pub entryRow : ℕ → Row → List ℕ
   unfolding txts nums sendRow eitherText
@@ -260,19 +264,42 @@ module _ (s : Store) where
   openTags [] = []
   openTags (r ∷ rs) = elim (num r (openRegion .tag)) [ zero ↦ [] | suc g ↦ getD elementNames g [] ] ∷ openTags rs
 
+  -- How many rows of each table are in use, the current region, what is drawn from the counters, and the text charge, as the position that is given back
+  -- has them. How much text is in use the papers leave free.
+  unfoldable pub counted : List ℕ
+  unfolding positionOf
+  counted =
+      let p : Position = positionOf s in
+      p .opened ∷ p .states ∷ p .transitions ∷ p .regions ∷ p .entries ∷ p .invokes ∷ p .datums ∷ p .parameters ∷ p .members ∷ p .«open_regions» ∷ p .current .0
+      ∷ p .ids ∷ p .docs ∷ p .names ∷ p .charge ∷ []
+
   unfoldable pub position : List ℕ
-  unfolding openRows rowsOf withLength columnOf wordList openTags
+  unfolding counted openRows rowsOf withLength columnOf wordList openTags
   position =
-      (mark .position ∷ length (rowsOf (table .opened)) ∷ openRows (rowsOf (table .opened)) (rowsOf (table .openNames)))
-      ++ (s .numbers .current ∷ withLength (columnOf (openRegion .region) (rowsOf (table .openRegions)))) ++ wordList (openTags (rowsOf (table .openRegions)))
-      ++ s .numbers .ids ∷ s .numbers .docs ∷ s .numbers .names ∷ []
+      (mark .position ∷ counted) ++ openRows (rowsOf (table .opened)) (rowsOf (table .openNames))
+      ++ withLength (columnOf (openRegion .region) (rowsOf (table .openRegions))) ++ wordList (openTags (rowsOf (table .openRegions)))
+
+  -- ---- what the judge's dump does not show
+
+  unfoldable pub presence : Row → ℕ → ℕ
+  presence r c = elim (num r c) [ zero ↦ 0 | suc i ↦ 1 ]
+
+  -- The assigns in order of creation: whether the column of expr and that of the text are present.
+  unfoldable pub assignColumns : Table → List ℕ
+  unfolding presence
+  assignColumns [] = []
+  assignColumns (r ∷ rs) =
+      elim (eqb (num r (entry .kind)) (entryKind .assign)) [
+        | true ↦ presence r (entry .expr) ∷ presence r (entry .text) ∷ assignColumns rs
+        | false ↦ assignColumns rs
+      ]
 
   -- ---- the whole
 
   unfoldable pub dump : List ℕ
-  unfolding nums txts rowsOf statesFrom transitionRow regionRow concat position
+  unfolding nums txts rowsOf statesFrom transitionRow regionRow concat position assignColumns
   dump =
       let r : Row = getD (rowsOf (table .chart)) 0 [] in
       nums r (chart .root ∷ chart .script ∷ chart .binding ∷ []) ++ txts r (chart .name ∷ chart .datamodel ∷ chart .version ∷ [])
       ++ statesFrom 1 (rowsOf (table .states)) ++ concat (map transitionRow (rowsOf (table .transitions)))
-      ++ concat (map regionRow (rowsOf (table .regions))) ++ position
+      ++ concat (map regionRow (rowsOf (table .regions))) ++ position ++ mark .assigns ∷ assignColumns (rowsOf (table .entries))

@@ -1,5 +1,6 @@
 //! A chart as the list of numbers that crates/compare/specs/Dump.antt makes of the definition's.
 
+use crate::walk::{Column, Walk};
 use rufsm::chart::*;
 
 const STATE: u32 = 9001;
@@ -11,6 +12,7 @@ const REGION: u32 = 9006;
 const ENTRY: u32 = 9007;
 const POSITION: u32 = 9008;
 const OPEN: u32 = 9009;
+const ASSIGNS: u32 = 9010;
 
 #[derive(Default)]
 struct Numbers(Vec<u32>);
@@ -71,7 +73,13 @@ impl Numbers {
         self.payload(&row.payload);
     }
 
-    fn state(&mut self, row: &StateRow) {
+    /// The column of `expr`, then the column of the text.
+    fn two_columns(&mut self, value: &Text, column: Column) {
+        let in_column = |wanted: Column| if column == wanted { value.clone() } else { None };
+        self.texts(&[in_column(Column::Expr), in_column(Column::Text)]);
+    }
+
+    fn state(&mut self, row: &StateRow, walk: &Walk) {
         self.put(&[STATE, row.number]);
         self.text(&row.name);
         self.put(&[row.doc, row.initial, row.parent, row.parallel, row.is_final, row.history]);
@@ -79,12 +87,13 @@ impl Numbers {
             self.list(list);
         }
         self.put(&[u32::from(row.donedata.is_some())]);
-        row.donedata.iter().for_each(|payload| self.payload(payload));
+        self.payload(&row.donedata.clone().unwrap_or_default());
         row.invokes.iter().zip(1..).for_each(|(invoke, place)| self.invoke(place, invoke));
         for data in &row.data {
             self.put(&[ITEM]);
             self.present(&data.id);
-            self.text(&data.value);
+            let place = (row.name.clone().unwrap_or_default(), data.id.clone());
+            self.two_columns(&data.value, walk.data.get(&place).copied().unwrap_or(Column::Neither));
         }
     }
 
@@ -131,29 +140,78 @@ impl Numbers {
         row.entries.iter().for_each(|entry| self.entry(entry));
     }
 
+    /// How many rows of each table are in use, the current region, the counters and the text charge.
+    fn counted(&mut self, chart: &Chart, walk: &Walk) {
+        let (position, all) = (&chart.position, Counts::of(chart));
+        let sizes = [position.open.len(), chart.states.len(), chart.transitions.len(), chart.regions.len()];
+        sizes.iter().for_each(|&size| self.put(&[size as u32]));
+        for size in [all.entries, all.invokes, all.data, walk.parameters, all.members, position.open_regions.len()] {
+            self.put(&[size as u32]);
+        }
+        self.put(&[position.current, position.ids, position.docs, position.names, walk.charge as u32]);
+    }
+
     fn position(&mut self, row: &Position) {
-        self.put(&[POSITION, row.open.len() as u32]);
         for open in &row.open {
             self.put(&[OPEN]);
             self.bytes(&open.tag);
             self.put(&[open.state, open.transition]);
         }
-        self.put(&[row.current]);
         self.list(&row.open_regions);
         self.words(&row.open_tags);
-        self.put(&[row.ids, row.docs, row.names]);
+    }
+
+    /// For each assign whether the column of `expr` and that of the text are present.
+    fn assigns(&mut self, walk: &Walk) {
+        self.put(&[ASSIGNS]);
+        for &column in &walk.assigns {
+            self.put(&[u32::from(column == Column::Expr), u32::from(column == Column::Text)]);
+        }
     }
 }
 
-pub fn of(chart: &Chart) -> Vec<u32> {
+/// Rows that the dump shows under others, counted over all.
+#[derive(Default)]
+struct Counts {
+    entries: usize,
+    invokes: usize,
+    data: usize,
+    members: usize,
+}
+
+impl Counts {
+    fn of(chart: &Chart) -> Counts {
+        let mut all = Counts::default();
+        for row in &chart.states {
+            all.invokes += row.invokes.len();
+            all.data += row.data.len();
+            let lists = [&row.children, &row.histories, &row.onentry, &row.onexit, &row.transitions];
+            all.members += lists.iter().map(|list| list.len()).sum::<usize>();
+            all.members += row.invokes.iter().map(|invoke| invoke.namelist.len()).sum::<usize>();
+        }
+        all.members += chart.transitions.iter().map(|row| row.targets.len() + row.events.len()).sum::<usize>();
+        for entry in chart.regions.iter().flat_map(|row| &row.entries) {
+            all.entries += 1;
+            if let Entry::Send { namelist, .. } = entry {
+                all.members += namelist.len();
+            }
+        }
+        all
+    }
+}
+
+pub fn of(chart: &Chart, walk: &Walk) -> Vec<u32> {
     let mut out = Numbers::default();
     out.put(&[chart.root, chart.script, chart.binding]);
     out.text(&chart.name);
     out.text(&chart.datamodel);
     out.text(&chart.version);
-    chart.states.iter().for_each(|row| out.state(row));
+    chart.states.iter().for_each(|row| out.state(row, walk));
     chart.transitions.iter().for_each(|row| out.transition(row));
     chart.regions.iter().for_each(|row| out.region(row));
+    out.put(&[POSITION]);
+    out.counted(chart, walk);
     out.position(&chart.position);
+    out.assigns(walk);
     out.0
 }

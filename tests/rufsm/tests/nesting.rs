@@ -1,47 +1,10 @@
 //! Every element in every parent, held to the nesting table.
 
-use rufsm::event::{print_all, Event, Kind, CARRYING};
+use rufsm::event::{print, print_all, Event, Kind};
+use rufsm::grid;
 use rufsm::judge::{is_there, verdict, Verdict};
-use rufsm::nesting::{allowed, parents, path, KEYS, TABLE};
-
-fn empty(tag: &str) -> Event {
-    Event::new(Kind::Empty, tag)
-}
-
-fn open(tag: &str) -> Event {
-    Event::new(Kind::Open, tag)
-}
-
-/// An empty element with what it must have.
-fn element(tag: &str) -> Event {
-    let required: &[&str] = match tag {
-        "data" => &["id"],
-        "foreach" => &["array", "item"],
-        "if" | "elseif" => &["cond"],
-        "param" => &["name"],
-        "assign" => &["location"],
-        "raise" => &["event"],
-        "cancel" => &["sendid"],
-        _ => &[],
-    };
-    required.iter().fold(empty(tag), |event, key| event.with(key, "v"))
-}
-
-fn opened(tag: &str) -> Event {
-    Event { kind: Kind::Open, ..element(tag) }
-}
-
-/// The events that leave `parent` the innermost open element.
-fn way_into(parent: &str) -> Vec<Event> {
-    match parent {
-        "" => vec![],
-        "(unknown)" => vec![open("scxml"), open("(unknown)")],
-        _ => {
-            let way = path("scxml", &[parent]).expect("every element can be reached");
-            [open("scxml")].into_iter().chain(way.into_iter().map(opened)).collect()
-        }
-    }
-}
+use rufsm::nesting::{parents, TABLE};
+use rufsm::refusal;
 
 /// The reference's own sentence.
 fn sentence(tag: &str, parent: &str) -> String {
@@ -55,10 +18,30 @@ fn sentence(tag: &str, parent: &str) -> String {
     format!("<{tag}> inside <{parent}>. Only allowed inside {}", parts.collect::<String>())
 }
 
-/// All places an element can stand in: outside, in an unknown element, and in each that can be open.
-fn places() -> Vec<&'static str> {
-    let tags = KEYS.iter().map(|(tag, _)| *tag).filter(|tag| !CARRYING.contains(tag));
-    ["", "(unknown)"].into_iter().chain(tags).collect()
+/// The judge's verdict on the last event, as a number; the events before it are taken.
+fn judged(way: &[Event], last: &Event, parent: &str) -> u32 {
+    let stream = print_all(way) + &print(last);
+    let here = |event: usize| assert_eq!(event, way.len() + 1, "{stream}");
+    match verdict(stream.as_bytes()) {
+        Verdict::Accepted(_) => 0,
+        Verdict::Form { event, .. } => {
+            here(event);
+            3
+        }
+        Verdict::Keys { .. } => 4,
+        Verdict::LeftOut { event, .. } => {
+            here(event);
+            6
+        }
+        Verdict::Refused { event, reason } => {
+            here(event);
+            let number = refusal::number(last, &reason).unwrap_or_else(|| panic!("{stream}{reason}"));
+            if number == 8 {
+                assert_eq!(reason, sentence(&last.name, parent));
+            }
+            number
+        }
+    }
 }
 
 #[test]
@@ -67,40 +50,24 @@ fn every_element_in_every_parent() {
         return;
     }
     let mut taken = 0;
-    for (tag, _) in TABLE {
-        for parent in places() {
-            let list: Vec<Event> = way_into(parent).into_iter().chain([element(tag)]).collect();
-            match verdict(print_all(&list).as_bytes()) {
-                Verdict::Accepted(_) => {
-                    assert!(allowed(tag, parent), "{tag} in {parent} was taken");
-                    taken += 1;
-                }
-                Verdict::Refused { event, reason } => {
-                    assert!(!allowed(tag, parent), "{tag} in {parent}: {reason}");
-                    assert_eq!((event, reason), (list.len(), sentence(tag, parent)));
-                }
-                other => panic!("{tag} in {parent}: {other:?}"),
-            }
+    for place in grid::places() {
+        for tried in place.tried {
+            let number = judged(&place.way, &tried.event, place.parent);
+            assert_eq!(number, tried.number, "{:?} in {}", tried.event, place.parent);
+            let listed = TABLE.iter().any(|(tag, _)| *tag == tried.event.name);
+            taken += usize::from(listed && tried.event.kind == Kind::Empty && number == 0);
         }
     }
     assert_eq!(taken, TABLE.iter().map(|(_, parents)| parents.len()).sum::<usize>());
 }
 
+/// The first scxml stands in any unknown element, too.
 #[test]
-fn scxml_and_unknown_names_anywhere() {
-    if !is_there("scxml_and_unknown_names_anywhere") {
+fn scxml_in_unknown_names() {
+    if !is_there("scxml_in_unknown_names") {
         return;
     }
-    for parent in places() {
-        let list: Vec<Event> = way_into(parent).into_iter().chain([empty("other")]).collect();
-        assert!(matches!(verdict(print_all(&list).as_bytes()), Verdict::Accepted(_)), "other in {parent}");
-        let list: Vec<Event> = way_into(parent).into_iter().chain([open("scxml")]).collect();
-        match verdict(print_all(&list).as_bytes()) {
-            Verdict::Accepted(_) => assert_eq!(parent, ""),
-            Verdict::Refused { reason, .. } => assert_eq!(reason, "Only one <scxml> allowed"),
-            other => panic!("scxml in {parent}: {other:?}"),
-        }
-    }
+    let open = |tag: &str| Event::new(Kind::Open, tag);
     assert!(matches!(verdict(print_all(&[open("x"), open("y"), open("scxml")]).as_bytes()), Verdict::Accepted(_)));
 }
 
