@@ -85,11 +85,14 @@ impl Chart {
     }
 }
 
-/// Numbers of rows are three types: one given for another does not compile.
+/// Numbers of rows are three types: one given for another does not compile. To C each is its number.
+#[repr(C)]
 pub struct StateId(pub u32);
 
+#[repr(C)]
 pub struct TransitionId(pub u32);
 
+#[repr(C)]
 pub struct RegionId(pub u32);
 
 /// The reading position, which goes in by value and comes back: how many rows of each table are in use, how many elements and regions are open, the current
