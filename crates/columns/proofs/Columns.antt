@@ -1,6 +1,6 @@
 -- A row's columns, tested one by one, as one expression.
 use mathlib.Core.Path.{_≡_, refl, ap, sym, _∙_}
-use mathlib.Core.Bool.{Bool, true, false, _&&_, _||_}
+use mathlib.Core.Bool.{Bool, true, false, _&&_, _||_, not}
 use mathlib.Core.List.{List, [], _∷_, _++_}
 use Prim.Native.Nat.{ℕ, zero, suc, _+_, _-_, _≤_, _<_}
 use native.Mathlib.Omega.{arith}
@@ -65,10 +65,18 @@ columns-all s r cs e = from s r cs 0 (omega arith)
 
 -- ---- texts
 
-pub inside-some : (used at n : ℕ) {x y z : ℕ} → (at ≡ 0 → ⊥) → x ≡ at - 1 → y ≡ n → z ≡ used → leb (x + y) z ≡ isInside used at n
+pub inside-is : (used at n : ℕ) {x y z : ℕ} → x ≡ at → y ≡ n → z ≡ used → (leb (x + y) (z + 1) && (not (eqb at 0) || eqb n 0)) ≡ isInside used at n
 unfolding isInside
-inside-some used zero n k e f g = let h : ⊥ = k refl in absurd h
-inside-some used (suc i) n k e f g = let h : suc i - 1 ≡ i = omega arith in rw (e, f, g, h)
+inside-is used zero zero e f g = rw (e, f, g, le-leb (0 + 0) (used + 1) (omega arith))
+inside-is used zero (suc n) e f g = rw (e, f, g, ne-eqb (suc n) 0 (λ q. omega arith)) (and-false (leb (0 + suc n) (used + 1)))
+  where
+    and-false : (b : Bool) → (b && false) ≡ false
+    and-false true = refl
+    and-false false = refl
+inside-is used (suc i) n e f g =
+    let p : suc i + n ≡ suc (i + n) = omega arith in
+    let q : used + 1 ≡ suc used = omega arith in
+    rw (e, f, g, ne-eqb (suc i) 0 (λ q. omega arith), p, q) (and-true (leb (suc (i + n)) (suc used)) ∙ leb·suc-suc (i + n) used)
 
 module _ (used : ℕ) (r : Row) (at : ℕ) {x y : ℕ} {b : Bool} (ex : x ≡ num r at) (ey : y ≡ num r (at + 1)) (eb : b ≡ isInside used x y) where
   pub texts-more : (n : ℕ) → 0 < n → b ≡ true → textsInside used r (at + 2) (n - 1) ≡ textsInside used r at n

@@ -2,7 +2,7 @@
 use mathlib.Core.Path.{_≡_}
 use mathlib.Core.Bool.{Bool, true, _&&_}
 use mathlib.Core.List.{List, [], _∷_}
-use Prim.Native.Nat.{ℕ, zero, suc, _<_}
+use Prim.Native.Nat.{ℕ, zero, suc, _≤_, _<_}
 use lib.Dec.{eqb}
 use lib.ListN.{length, getD}
 use Rattle.definition.specs.Rows.{Row, Table, table, Class, free, choices, transitionColumns, regionColumns, datumColumns, parameterColumns, memberColumns, openedColumns, openRegionColumns, chartColumns, stateColumns, invokeColumns, num, Store, tableOf}
@@ -23,6 +23,10 @@ pub record Sees (s : Store) (k : Known) (ts rs : Table) : Type 0 where
 -- Numbers rise along the rows.
 unfoldable pub Rising : Table → Type 0
 Rising t = (i j : ℕ) → i < j → j < length t → num (getD t i []) 0 < num (getD t j []) 0
+
+-- 1 where n is at least m, else 0.
+abbrev pub Reaches : ℕ → ℕ → ℕ → Type 0
+Reaches n m r = (m ≤ n → r ≡ 1) × (n < m → r ≡ 0)
 
 -- r says whether a row keeps the classes, in every store that is seen so; whether all rows do.
 abbrev pub RowTest : Known → Table → Table → List Class → Row → Bool → Type 0

@@ -5,11 +5,12 @@ use definition::TransitionId;
 ghost use mathlib.Core.Path.{_≡_};
 ghost use mathlib.Core.Bool.{_&&_, _||_, not};
 ghost use Prim.Native.Nat.{suc, _+_, _*_, _≤_};
+ghost use lib.ListN.{length};
 ghost use lib.Dec.{eqb, leb, ltb};
 ghost use Rattle.definition.specs.Rows.{num};
 ghost use Rattle.definition.specs.Rules.{isInside};
 ghost use Rattle.definition.specs.Actions.{placeOfNumber};
-ghost use Rattle.columns.specs.Sees.{Rising, ChoiceTest, textsInside, zerosFrom};
+ghost use Rattle.columns.specs.Sees.{Rising, Reaches, ChoiceTest, textsInside, zerosFrom};
 
 /// What rows are held against, beside the transitions and regions.
 pub struct Known {
@@ -32,31 +33,32 @@ fn wide(x: u32) -> u64
 pub fn inside(used: u32, at: u32, len: u32) -> bool
     ensures { λ r. ⌜ r ≡ isInside used at len ⌝ }
 {
-    if at == 0 {
-        return len == 0;
-    }
-    wide(at - 1) + wide(len) <= wide(used)
+    (wide(at) + wide(len) <= wide(used) + 1) & ((at != 0) | (len == 0))
 }
 
-/// Whether a row has the number.
+// 1 where a number is not below another, else 0: computed, since a branch on it is guessed wrong every second time in a search.
+fn reaches(number: u32, other: u32) -> usize
+    ensures { λ r. ⌜ Reaches number other r ⌝ }
+{
+    ((wide(number) + 4294967296 - wide(other)) / 4294967296) as usize
+}
+
+/// Whether a row has the number, by halves.
 pub fn has_number(rows: &[[u32; 8]], number: u32) -> bool
     requires { ⌜ Rising (now rows) ⌝ }
     ensures { λ r. ⌜ r ≡ leb 1 (placeOfNumber (now (rows .entry)) number) ⌝ }
 {
-    let mut low = 0;
-    let mut high = rows.len();
-    while low < high {
-        let middle = low + (high - low) / 2;
-        if rows[middle][0] < number {
-            low = middle + 1;
-        } else {
-            high = middle;
-        }
+    if rows.len() == 0 {
+        return false;
     }
-    if low < rows.len() {
-        return rows[low][0] == number;
+    let mut base = 0;
+    let mut size = rows.len();
+    while 1 < size {
+        let half = size / 2;
+        base += half * reaches(number, rows[base + half][0]);
+        size -= half;
     }
-    false
+    rows[base][0] == number
 }
 
 fn is_numbered(rows: &[[u32; 8]], number: u32) -> bool
@@ -134,24 +136,15 @@ pub fn up_to_next(v: u32, count: u32) -> bool
     v - 1 <= count
 }
 
-fn cell(row: &[u32], c: usize) -> u32
-    ensures { λ r. ⌜ r ≡ num (now (row .entry)) c ⌝ }
-{
-    if c < row.len() {
-        return row[c];
-    }
-    0
-}
-
 // A run of texts in a row, the first at column `from`.
 pub fn texts(row: &[u32], from: usize, count: usize, used: u32) -> bool
-    requires { ⌜ from + 2 * count ≤ 48 ⌝ }
+    requires { ⌜ from + 2 * count ≤ length (now row) ⌝ }
     ensures { λ r. ⌜ r ≡ textsInside used (now (row .entry)) from count ⌝ }
 {
     let mut left = count;
     let mut at = from;
     while 0 < left {
-        if !inside(used, cell(row, at), cell(row, at + 1)) {
+        if !inside(used, row[at], row[at + 1]) {
             return false;
         }
         at += 2;
@@ -162,13 +155,13 @@ pub fn texts(row: &[u32], from: usize, count: usize, used: u32) -> bool
 
 // A run of spare columns.
 pub fn zeros(row: &[u32], from: usize, count: usize) -> bool
-    requires { ⌜ from + count ≤ 48 ⌝ }
+    requires { ⌜ from + count ≤ length (now row) ⌝ }
     ensures { λ r. ⌜ r ≡ zerosFrom (now (row .entry)) from count ⌝ }
 {
     let mut left = count;
     let mut at = from;
     while 0 < left {
-        if cell(row, at) != 0 {
+        if row[at] != 0 {
             return false;
         }
         at += 1;

@@ -1,15 +1,7 @@
-use Rattle.columns.proofs.Columns.{inside-some}
-use Rattle.definition.specs.Rules.{isInside}
+use Rattle.columns.proofs.Columns.{inside-is}
 use borrow.Author.Needs.{needs}
 use Rattle.columns.proofs.inside.Statement.{statement}
 use Rattle.columns.proofs.inside.Tie as tie
-
-returns : tie.Need-returns
-unfolding isInside
-returns c = rw (c .if1 .taken, isInside)
-
-sub-wide : tie.Need-sub-wide
-sub-wide c = search needs
 
 wide-requires : tie.Need-wide-requires
 wide-requires c κs = search needs
@@ -23,10 +15,13 @@ add-result c = search needs
 wide-requires-3 : tie.Need-wide-requires-3
 wide-requires-3 c κs = search needs
 
-returns-2 : tie.Need-returns-2
-returns-2 c = inside-some _ _ _ (c .before .before .before .if1 .left) (c .before .before .wide .ensures) (c .before .wide2 .ensures) (c .wide3 .ensures)
+add-result-2 : tie.Need-add-result-2
+add-result-2 c = search needs
+
+returns : tie.Need-returns
+returns c = inside-is _ _ _ (c .before .before .wide .ensures) (c .before .wide2 .ensures) (c .wide3 .ensures)
 
 pub inside-spec : {M : Type 1} → statement M
 inside-spec =
     tie.close
-    (tie.spec returns sub-wide wide-requires wide-requires-2 add-result wide-requires-3 returns-2)
+    (tie.spec wide-requires wide-requires-2 add-result wide-requires-3 add-result-2 returns)

@@ -1,5 +1,6 @@
-use native.Mathlib.Omega.{arith}
 use Prim.Native.Nat.{_+_, _≤_}
+use lib.ListN.{length}
+use native.Mathlib.Omega.{arith}
 use mathlib.Core.Path.{_≡_, refl, _∙_}
 use Rattle.columns.specs.Sees.{zerosFrom}
 use Rattle.columns.proofs.Columns.{zeros-more, zeros-stop, zeros-end}
@@ -8,19 +9,22 @@ use Rattle.columns.proofs.zeros.Statement.{statement}
 use Rattle.columns.proofs.zeros.Tie as tie
 
 abbrev Inv-loop : tie.InvT-loop
-Inv-loop row from count left₀ at₀ left at = (at + left ≤ 48) × (zerosFrom row at left ≡ zerosFrom row from count)
+Inv-loop row from count left₀ at₀ left at = (at + left ≤ length row) × (zerosFrom row at left ≡ zerosFrom row from count)
 
 abbrev μ-loop : tie.MeasureT-loop
 μ-loop row from count left₀ at₀ left at = left
 
 loop-holds : tie.Need-loop-holds Inv-loop μ-loop
-loop-holds c = (search needs, refl)
+loop-holds c = (c .pre, refl)
 
-cell-requires : tie.Need-cell-requires Inv-loop μ-loop
-cell-requires c κs = search needs
+mul-if1 : tie.Need-mul-if1 Inv-loop μ-loop
+mul-if1 c = search needs
+
+shared-slice-read-if1 : tie.Need-shared-slice-read-if1 Inv-loop μ-loop
+shared-slice-read-if1 c = search needs
 
 returns : tie.Need-returns Inv-loop μ-loop
-returns c = zeros-stop (c .before .before .before .before .before .args .row .now) (c .before .before .before .loop .at) (c .before .cell .ensures) _ (c .before .before .loop-test .taken) (c .if1 .taken) ∙ c .before .before .before .loop .inv .1
+returns c = zeros-stop (c .before .before .before .before .args .row .now) (c .before .before .before .loop .at) refl _ (c .before .before .loop-test .taken) (c .if1 .taken) ∙ c .before .before .before .loop .inv .1
 
 add-at : tie.Need-add-at Inv-loop μ-loop
 add-at c = search needs
@@ -32,7 +36,7 @@ loop-less : tie.Need-loop-less Inv-loop μ-loop
 loop-less c = search needs
 
 loop-again : tie.Need-loop-again Inv-loop μ-loop
-loop-again c = (omega arith, zeros-more (c .before .before .before .before .before .args .row .now) (c .before .before .before .loop .at) (c .before .cell .ensures) _ (c .before .before .loop-test .taken) (c .if1 .left) ∙ c .before .before .before .loop .inv .1)
+loop-again c = (omega arith, zeros-more (c .before .before .before .before .args .row .now) (c .before .before .before .loop .at) refl _ (c .before .before .loop-test .taken) (c .if1 .left) ∙ c .before .before .before .loop .inv .1)
 
 returns-2 : tie.Need-returns-2 Inv-loop μ-loop
 returns-2 c = zeros-end _ _ _ (c .loop-test .left) ∙ c .before .loop .inv .1
@@ -44,7 +48,8 @@ zeros-spec =
     Inv-loop
     μ-loop
     loop-holds
-    cell-requires
+    mul-if1
+    shared-slice-read-if1
     returns
     add-at
     sub-left
