@@ -43,8 +43,8 @@ fn reaches(number: u32, other: u32) -> usize
     ((wide(number) + 4294967296 - wide(other)) / 4294967296) as usize
 }
 
-/// Whether a row has the number, by halves.
-pub fn has_number(rows: &[[u32; 8]], number: u32) -> bool
+// Whether a row has the number, by halves.
+fn has_number(rows: &[[u32; 8]], number: u32) -> bool
     requires { ⌜ Rising (now rows) ⌝ }
     ensures { λ r. ⌜ r ≡ leb 1 (placeOfNumber (now (rows .entry)) number) ⌝ }
 {

@@ -3,13 +3,14 @@ use mathlib.Core.Path.{_≡_, refl, sym}
 use mathlib.Core.Bool.{Bool, true, false, _&&_}
 use mathlib.Core.List.{List, [], _∷_}
 use Prim.Native.Nat.{ℕ}
-use lib.ListN.{length, replicate}
+use lib.ListN.{replicate}
 use Rattle.definition.specs.Limits.{limits01}
 use Rattle.definition.specs.Rows.{Table, Class, free, table, schema, Numbers, tableOf, Store, chartColumns, stateColumns, transitionColumns, regionColumns, entryColumns, invokeColumns, datumColumns, parameterColumns, memberColumns, openedColumns, openRegionColumns}
 use Rattle.definition.specs.Rules.{rowsKeep, tablesKeep, rises, noneIn, numbersFit, namesDistinct, openNamesFit, openRegionsFit, isRowOrZero}
+use Rattle.columns.specs.declared.Known.{Known}
 use Rattle.columns.specs.Sees.{Sees}
 use Rattle.definition.specs.declared.Position.{Position}
-use Rattle.questions.specs.Lent.{tables, store, rulesKept}
+use Rattle.questions.specs.Lent.{tables, store, rulesKept, knownOf}
 
 elim-and : (a b : Bool) → elim a [ true ↦ b | false ↦ false ] ≡ a && b
 elim-and true b = refl
@@ -41,9 +42,9 @@ unfit s e =
     (openNamesFit limits01 (tableOf (s .numbers) (table .opened)) (tableOf (s .numbers) (table .openNames))) (openRegionsFit (s .numbers)) (isRowOrZero (s .numbers) (table .regions) (s .numbers .current))
     e
 
-pub sees : (ch st tr re en iv da pa me op on or : Table) (text : List ℕ) (p : Position) {a b c d u : ℕ} → a ≡ length st → b ≡ length en → c ≡ length iv → d ≡ length pa → u ≡ length text → Sees (store (tables ch st tr re en iv da pa me op on or) text p) (record { states = a; entries = b; invokes = c; parameters = d; ids = p .ids; docs = p .docs; used = u }) tr re
-sees ch st tr re en iv da pa me op on or text p ea eb ec ed eu =
-    record { states = sym ea; entries = sym eb; invokes = sym ec; parameters = sym ed; ids = refl; docs = refl; used = sym eu; transitions = refl; regions = refl }
+pub sees : (ch st tr re en iv da pa me op on or : Table) (text : List ℕ) (p : Position) {k : Known} → k ≡ knownOf st en iv pa text p → Sees (store (tables ch st tr re en iv da pa me op on or) text p) k tr re
+sees ch st tr re en iv da pa me op on or text p e =
+    rw e record { states = refl; entries = refl; invokes = refl; parameters = refl; ids = refl; docs = refl; used = refl; transitions = refl; regions = refl }
 
 -- Numbers that do not fit, in the order in which the code asks.
 module _ (ch st tr re en iv da pa me op on or : Table) (text : List ℕ) (p : Position) where

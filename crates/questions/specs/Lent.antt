@@ -44,6 +44,10 @@ pub record Few (st en iv pa : Table) (bytes : List ℕ) : Type 0 where
   pub parameters : length pa ≤ limits01 .parameters
   pub text : length bytes ≤ limits01 .charge
 
+abbrev pub knownOf : Table → Table → Table → Table → List ℕ → Position → Known
+knownOf st en iv pa bytes p =
+    record { states = length st; entries = length en; invokes = length iv; parameters = length pa; ids = p .ids; docs = p .docs; used = length bytes }
+
 -- The counts of rows keep the limits; the counters do, and the charge covers the text.
 unfoldable pub countsFit : Position → Bool
 unfolding R.allAtMost R.counts tableLimits

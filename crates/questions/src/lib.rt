@@ -24,13 +24,41 @@ ghost use Prim.Native.Nat.{_<_, _^_};
 ghost use Rattle.definition.specs.Limits.{limits01};
 ghost use Rattle.definition.specs.Reader.{longEnough, inOrder};
 ghost use Rattle.columns.specs.Sees.{Rising};
-ghost use Rattle.questions.specs.Lent.{TablesTest, tables, lent, store, rulesKept, Few, countsFit, countersFit, firstTwo};
+ghost use Rattle.questions.specs.Lent.{TablesTest, tables, lent, store, rulesKept, Few, knownOf, countsFit, countersFit, firstTwo};
 
 fn count(n: usize) -> u32
     requires { ⌜ n < 2 ^ 32 ⌝ }
     ensures { λ r. ⌜ r ≡ n ⌝ }
 {
     n as u32
+}
+
+// What the rows are held against.
+fn known(
+    states: &[[u32; 24]],
+    entries: &[[u32; 48]],
+    invokes: &[[u32; 24]],
+    parameters: &[[u32; 8]],
+    text: &[u8],
+    p: Position,
+) -> Known
+    requires { ⌜ Few (now states) (now entries) (now invokes) (now parameters) (now text) ⌝ }
+    ensures { λ r. ⌜ r ≡ knownOf (now (states .entry)) (now (entries .entry)) (now (invokes .entry)) (now (parameters .entry)) (now (text .entry)) p ⌝ }
+{
+    let in_states = count(states.len());
+    let in_entries = count(entries.len());
+    let in_invokes = count(invokes.len());
+    let in_parameters = count(parameters.len());
+    let used = count(text.len());
+    Known {
+        states: in_states,
+        entries: in_entries,
+        invokes: in_invokes,
+        parameters: in_parameters,
+        ids: p.ids,
+        docs: p.docs,
+        used: used,
+    }
 }
 
 // Every row of every table.
@@ -113,20 +141,7 @@ fn rules_kept(
     if !none_in(regions, transitions) {
         return false;
     }
-    let in_states = count(states.len());
-    let in_entries = count(entries.len());
-    let in_invokes = count(invokes.len());
-    let in_parameters = count(parameters.len());
-    let used = count(text.len());
-    let k = Known {
-        states: in_states,
-        entries: in_entries,
-        invokes: in_invokes,
-        parameters: in_parameters,
-        ids: p.ids,
-        docs: p.docs,
-        used: used,
-    };
+    let k = known(states, entries, invokes, parameters, text, p);
     rows_kept(
         chart,
         states,
