@@ -1,4 +1,5 @@
 pub mod Limits
+pub mod Position
 pub mod Text
 pub mod Elements
 pub mod Nesting

@@ -1,5 +1,7 @@
 ghost use mathlib.Core.Path.{_≡_};
+ghost use Prim.Native.Nat.{_-_};
 ghost use Rattle.definition.specs.Limits.{limits01};
+ghost use Rattle.definition.specs.Position.{oneMore, pushedAt, poppedAt, idDrawn, docDrawn, nameDrawn};
 
 /// The chart type: its associated constants are document 01's limits.
 pub struct Chart {}
@@ -83,11 +85,14 @@ impl Chart {
     }
 }
 
-/// Numbers of rows are three types: one given for another does not compile.
+/// Numbers of rows are three types: one given for another does not compile. To C each is its number.
+#[repr(C)]
 pub struct StateId(pub u32);
 
+#[repr(C)]
 pub struct TransitionId(pub u32);
 
+#[repr(C)]
 pub struct RegionId(pub u32);
 
 /// The reading position, which goes in by value and comes back: how many rows of each table are in use, how many elements and regions are open, the current
@@ -110,4 +115,81 @@ pub struct Position {
     pub names: u32,
     pub used: u32,
     pub charge: u32,
+}
+
+fn one_more(limit: u32, n: u32) -> u32
+    ensures { λ r. ⌜ r ≡ oneMore limit n ⌝ }
+{
+    if n < limit {
+        return n + 1;
+    }
+    n
+}
+
+fn one_less(n: u32) -> u32
+    ensures { λ r. ⌜ r ≡ n - 1 ⌝ }
+{
+    if n == 0 {
+        return 0;
+    }
+    n - 1
+}
+
+impl Position {
+    /// One element more is open.
+    pub fn push(self) -> Position
+        ensures { λ r. ⌜ r ≡ pushedAt limits01 self ⌝ }
+    {
+        let mut p = self;
+        p.opened = one_more(Chart::OPENED, self.opened);
+        p
+    }
+
+    /// The innermost element is closed.
+    pub fn pop(self) -> Position
+        ensures { λ r. ⌜ r ≡ poppedAt self ⌝ }
+    {
+        let mut p = self;
+        p.opened = one_less(self.opened);
+        p
+    }
+
+    /// A number for a transition or a region is drawn: one counter numbers both.
+    pub fn draw_id(self) -> Position
+        ensures { λ r. ⌜ r ≡ idDrawn limits01 self ⌝ }
+    {
+        let mut p = self;
+        p.ids = one_more(Chart::DRAWN, self.ids);
+        p
+    }
+
+    pub fn draw_doc(self) -> Position
+        ensures { λ r. ⌜ r ≡ docDrawn limits01 self ⌝ }
+    {
+        let mut p = self;
+        p.docs = one_more(Chart::DRAWN, self.docs);
+        p
+    }
+
+    pub fn draw_name(self) -> Position
+        ensures { λ r. ⌜ r ≡ nameDrawn limits01 self ⌝ }
+    {
+        let mut p = self;
+        p.names = one_more(Chart::DRAWN, self.names);
+        p
+    }
+
+    /// The number drawn last, as a transition's.
+    pub fn transition(self) -> TransitionId
+        ensures { λ r. ⌜ r .0 ≡ self .ids ⌝ }
+    {
+        TransitionId(self.ids)
+    }
+
+    /// The number drawn last, as a region's.
+    pub fn region(self) -> RegionId
+        ensures { λ r. ⌜ r .0 ≡ self .ids ⌝ }
+    {
+        RegionId(self.ids)
+    }
 }

@@ -1,6 +1,10 @@
 //! The proved functions as Rust sees them: functions callable from C, each behind a safe one.
 
+pub mod charted;
 pub mod described;
+pub mod lent;
+pub mod plain;
+pub mod rules;
 
 use rufsm::frames;
 use std::path::Path;
