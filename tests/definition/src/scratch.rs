@@ -33,9 +33,10 @@ fn copy(from: &Path, to: &Path) -> Result<(), String> {
         let path = entry.map_err(|e| e.to_string())?.path();
         let target = to.join(path.file_name().unwrap_or_default());
         match path.file_name().and_then(|name| name.to_str()) {
-            // The crates' own theorems are checked elsewhere; here only definitions are evaluated.
-            Some("must-fail" | "proofs") => continue,
+            Some("must-fail") => continue,
             _ if path.is_dir() => copy(&path, &target)?,
+            // The crates' own theorems are checked elsewhere; here definitions are evaluated, and functions need their proofs.
+            _ if from.ends_with("proofs") => continue,
             _ => fs::copy(&path, &target).map(|_| ()).map_err(|e| format!("{}: {e}", path.display()))?,
         }
     }
