@@ -1,4 +1,4 @@
-// Elements and keys by number, and which element may stand in which.
+// Kinds of event, elements and keys by number, and which element may stand in which.
 use definition::StateId;
 use text::same_at;
 ghost use mathlib.Core.Path.{_≡_};
@@ -10,6 +10,141 @@ ghost use Rattle.definition.specs.Elements.{among, numberIn, tagOf, keyOf, hold
 ghost use Rattle.definition.specs.Nesting.{parentAllowed};
 ghost use Rattle.nesting.specs.Ids.{rowOf, root};
 ghost use Rattle.nesting.specs.Tables.{rowName, parentRows, listed};
+
+/// Kinds of event: `open`, `empty`, `whole`, `end`.
+pub struct Kind {}
+
+impl Kind {
+    pub const OPEN: u32 = 0;
+
+    pub const EMPTY: u32 = 1;
+
+    pub const WHOLE: u32 = 2;
+
+    pub const END: u32 = 3;
+}
+
+/// Elements by number; 0 is every other name.
+pub struct Tag {}
+
+impl Tag {
+    pub const UNKNOWN: u32 = 0;
+
+    pub const SCXML: u32 = 1;
+
+    pub const STATE: u32 = 2;
+
+    pub const PARALLEL: u32 = 3;
+
+    pub const DATAMODEL: u32 = 4;
+
+    pub const FINAL: u32 = 5;
+
+    pub const HISTORY: u32 = 6;
+
+    pub const INITIAL: u32 = 7;
+
+    pub const INVOKE: u32 = 8;
+
+    pub const DATA: u32 = 9;
+
+    pub const DONEDATA: u32 = 10;
+
+    pub const FINALIZE: u32 = 11;
+
+    pub const ELSE: u32 = 12;
+
+    pub const ELSEIF: u32 = 13;
+
+    pub const PARAM: u32 = 14;
+
+    pub const CONTENT: u32 = 15;
+
+    pub const TRANSITION: u32 = 16;
+
+    pub const ONENTRY: u32 = 17;
+
+    pub const ONEXIT: u32 = 18;
+
+    pub const SEND: u32 = 19;
+
+    pub const RAISE: u32 = 20;
+
+    pub const CANCEL: u32 = 21;
+
+    pub const LOG: u32 = 22;
+
+    pub const ASSIGN: u32 = 23;
+
+    pub const IF: u32 = 24;
+
+    pub const FOREACH: u32 = 25;
+
+    pub const SCRIPT: u32 = 26;
+
+    pub const INCLUDE: u32 = 27;
+}
+
+/// Keys by number, as places of an index; 0 is every other key.
+pub struct Key {}
+
+impl Key {
+    pub const ID: usize = 1;
+
+    pub const INITIAL: usize = 2;
+
+    pub const NAME: usize = 3;
+
+    pub const DATAMODEL: usize = 4;
+
+    pub const BINDING: usize = 5;
+
+    pub const VERSION: usize = 6;
+
+    pub const TYPE: usize = 7;
+
+    pub const TYPEEXPR: usize = 8;
+
+    pub const SRC: usize = 9;
+
+    pub const SRCEXPR: usize = 10;
+
+    pub const IDLOCATION: usize = 11;
+
+    pub const NAMELIST: usize = 12;
+
+    pub const AUTOFORWARD: usize = 13;
+
+    pub const EVENT: usize = 14;
+
+    pub const EVENTEXPR: usize = 15;
+
+    pub const COND: usize = 16;
+
+    pub const TARGET: usize = 17;
+
+    pub const TARGETEXPR: usize = 18;
+
+    pub const EXPR: usize = 19;
+
+    pub const ARRAY: usize = 20;
+
+    pub const ITEM: usize = 21;
+
+    pub const INDEX: usize = 22;
+
+    pub const SENDID: usize = 23;
+
+    pub const SENDIDEXPR: usize = 24;
+
+    pub const DELAY: usize = 25;
+
+    pub const DELAYEXPR: usize = 26;
+
+    pub const LOCATION: usize = 27;
+
+    pub const LABEL: usize = 28;
+}
 
 // Elements in the order of their numbers, from 1: length, name, spaces.
 const ELEMENTS: [[u8; 12]; 27] = [
@@ -199,25 +334,27 @@ fn is_listed(row: [u8; 7], parent: u32) -> bool
 pub fn parent_allowed(tag: u32, parent: u32) -> bool
     ensures { λ r. ⌜ r ≡ parentAllowed tag parent ⌝ }
 {
-    if tag < 2 {
+    if tag < Tag::STATE {
         return true;
     }
-    if 26 < tag {
+    if Tag::SCRIPT < tag {
         return true;
     }
-    is_listed(parents_at(wide(tag - 2)), parent)
+    is_listed(parents_at(wide(tag - Tag::STATE)), parent)
 }
 
 // data, script, content, assign: come as `whole` or `empty`.
 pub fn holds_text(tag: u32) -> bool
     ensures { λ r. ⌜ r ≡ holdsText tag ⌝ }
 {
-    (tag == 9) | ((tag == 26) | ((tag == 15) | (tag == 23)))
+    (tag == Tag::DATA) | ((tag == Tag::SCRIPT) | ((tag == Tag::CONTENT) | (tag == Tag::ASSIGN)))
 }
 
 // scxml, state, parallel, final, history: their `id` names a state.
 pub fn names_state(tag: u32) -> bool
     ensures { λ r. ⌜ r ≡ namesState tag ⌝ }
 {
-    (tag == 1) | ((tag == 2) | ((tag == 3) | ((tag == 5) | (tag == 6))))
+    (tag == Tag::SCXML)
+        | ((tag == Tag::STATE)
+            | ((tag == Tag::PARALLEL) | ((tag == Tag::FINAL) | (tag == Tag::HISTORY))))
 }

@@ -112,7 +112,7 @@ pub const KEYS: [&str; 28] = [
     "label",
 ];
 
-fn number_in(names: &[&str], name: &str) -> u32 {
+pub fn number_in(names: &[&str], name: &str) -> u32 {
     names.iter().position(|other| *other == name).map_or(0, |place| place as u32 + 1)
 }
 

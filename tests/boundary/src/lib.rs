@@ -3,6 +3,7 @@
 pub mod charted;
 pub mod described;
 pub mod lent;
+pub mod looked;
 pub mod plain;
 pub mod rules;
 

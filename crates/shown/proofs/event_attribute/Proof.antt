@@ -1,7 +1,6 @@
 use lib.ListN.{length-map}
 use Rattle.shown.specs.Shown.{attributeOf}
 use Rattle.shown.proofs.Laws.{at-place, past-end}
-use Prim.Native.Nat.{_-_}
 use mathlib.Core.Path.{_∙_}
 use native.Mathlib.Omega.{arith}
 use borrow.Author.Needs.{needs}

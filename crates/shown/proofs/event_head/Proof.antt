@@ -1,6 +1,5 @@
 use Rattle.shown.specs.Shown.{withSum}
 use Rattle.shown.proofs.Laws.{head-is}
-use Prim.Native.Nat.{_-_}
 use borrow.Author.Needs.{needs}
 use Rattle.shown.proofs.event_head.Statement.{statement}
 use Rattle.shown.proofs.event_head.Tie as tie

@@ -1,5 +1,4 @@
 use Rattle.shown.specs.Shown.{attributeOf}
-use Prim.Native.Nat.{_-_}
 use mathlib.Core.Path.{refl}
 use Rattle.shown.proofs.no_attribute.Statement.{statement}
 use Rattle.shown.proofs.no_attribute.Tie as tie

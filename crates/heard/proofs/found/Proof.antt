@@ -1,0 +1,26 @@
+use Rattle.plain.specs.Plain.{parsedIn}
+use Rattle.heard.proofs.FoundLaws.{found-data, found-other}
+use borrow.Author.Needs.{needs}
+use Rattle.heard.proofs.found.Statement.{statement}
+use Rattle.heard.proofs.found.Tie as tie
+use Rattle.heard.proofs.found.Reads as reads
+use Rattle.heard.proofs.found.Lts as lts
+use Rattle.heard.proofs.find_datum.Reads as find-datum-reads
+use Rattle.plain.proofs.value.Reads as value-reads
+
+value-requires : tie.Need-value-requires
+value-requires c κs = search needs
+
+find-datum-requires : tie.Need-find-datum-requires
+find-datum-requires c κs = search needs
+
+returns : tie.Need-returns
+unfolding parsedIn
+returns c = found-data (c .before .before .before .before .before .before .args .text .now) (c .before .before .before .before .before .before .args .datums .now) (c .before .before .before .before .before .before .args .state) (parsedIn (c .before .before .before .before .before .before .args .src .now) (c .before .before .before .before .before .before .args .p)) (c .before .before .if1 .taken) _ (c .before .value .ensures .0) _ (c .find-datum .ensures)
+
+returns-2 : tie.Need-returns-2
+unfolding parsedIn
+returns-2 c = found-other (c .before .before .before .before .args .text .now) (c .before .before .before .before .args .datums .now) (c .before .before .before .before .args .state) (parsedIn (c .before .before .before .before .args .src .now) (c .before .before .before .before .args .p)) (c .if1 .left)
+
+pub found-spec : {M : Type 1} → statement M
+found-spec = tie.close (tie.spec value-requires find-datum-requires returns returns-2)

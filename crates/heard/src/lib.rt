@@ -1,0 +1,442 @@
+// What an event says, as numbers: all that a plan needs of it; the questions 5 to 12; the rows that it finds.
+use definition::Chart;
+use names::is_at;
+use nesting::Key;
+use nesting::Kind;
+use nesting::Tag;
+use nesting::parent_allowed;
+use plain::Plain;
+use plain::bytes_of;
+use plain::has;
+use plain::value;
+use plan::Heard;
+use rows::index;
+use text::binding_code;
+use text::history_code;
+use text::is_true;
+use text::same_at;
+use text::transition_code;
+use words::is_wildcard;
+use words::next_event_word;
+use words::next_state_word;
+use words::trim;
+ghost use mathlib.Core.Path.{_≡_};
+ghost use Prim.Native.Nat.{_<_, _≤_};
+ghost use lib.ListN.{length};
+ghost use Rattle.definition.specs.Text.{same, eventWords, stateWords, bytesAt};
+ghost use Rattle.definition.specs.Elements.{key};
+ghost use Rattle.definition.specs.Elements as E;
+ghost use Rattle.definition.specs.Look.{oneIf, codeOf, wordSpans, findDatum, isInnermost};
+ghost use Rattle.definition.specs.Actions.{typeOf};
+ghost use Rattle.plain.specs.Plain.{slotsOf, parsedIn};
+ghost use Rattle.plain.specs.Keyed.{indexOf, isMarked};
+ghost use Rattle.heard.specs.Heard.{orElse, heardIn};
+ghost use mathlib.Core.Bool.{not, _&&_};
+ghost use lib.Dec.{eqb, leb};
+ghost use Rattle.definition.specs.Reader.{firstNo};
+ghost use Rattle.heard.specs.Asked.{leftOutBy, completeBy, apartBy, trimmedIn, textApartIn, askedIn, pick, questionsBy};
+ghost use Rattle.heard.specs.Found.{isDatum, foundIn};
+
+fn one_if(b: bool) -> u32
+    ensures { λ r. ⌜ r ≡ oneIf b ⌝ }
+{
+    if b {
+        return 1;
+    }
+    0
+}
+
+fn or_else(there: bool, x: u32, d: u32) -> u32
+    ensures { λ r. ⌜ r ≡ orElse there x d ⌝ }
+{
+    if there {
+        return x;
+    }
+    d
+}
+
+fn binding_of(tag: u32, v: &[u8]) -> u32
+    ensures { λ r. ⌜ r ≡ codeOf tag (key .binding) (now (v .entry)) ⌝ }
+{
+    if tag == Tag::SCXML {
+        return binding_code(v);
+    }
+    0
+}
+
+fn type_code(tag: u32, v: &[u8]) -> u32
+    ensures { λ r. ⌜ r ≡ codeOf tag (key .type) (now (v .entry)) ⌝ }
+{
+    if tag == Tag::HISTORY {
+        return history_code(v);
+    }
+    if tag == Tag::TRANSITION {
+        return transition_code(v);
+    }
+    0
+}
+
+fn wildcard_of(tag: u32, v: &[u8]) -> u32
+    ensures { λ r. ⌜ r ≡ codeOf tag (key .event) (now (v .entry)) ⌝ }
+{
+    if tag == Tag::TRANSITION {
+        return one_if(is_wildcard(v));
+    }
+    0
+}
+
+fn forward_of(tag: u32, v: &[u8]) -> u32
+    ensures { λ r. ⌜ r ≡ codeOf tag (key .autoforward) (now (v .entry)) ⌝ }
+{
+    one_if(is_true(v))
+}
+
+fn type_of(code: u32) -> u32
+    ensures { λ r. ⌜ r ≡ typeOf code ⌝ }
+{
+    if code == 1 {
+        return 1;
+    }
+    0
+}
+
+fn event_words(v: &[u8]) -> usize
+    ensures { λ r. ⌜ r ≡ length (eventWords (now (v .entry))) ⌝ }
+    ensures { λ r. ⌜ r ≤ length (now (v .entry)) ⌝ }
+{
+    let mut n = 0;
+    let mut at = 0;
+    while at < v.len() {
+        let w = next_event_word(v, at);
+        let start = w.start;
+        let end = w.end;
+        if start == end {
+            return n;
+        }
+        n += 1;
+        at = end;
+    }
+    n
+}
+
+fn state_words(v: &[u8]) -> usize
+    ensures { λ r. ⌜ r ≡ length (stateWords (now (v .entry))) ⌝ }
+    ensures { λ r. ⌜ r ≤ length (now (v .entry)) ⌝ }
+{
+    let mut n = 0;
+    let mut at = 0;
+    while at < v.len() {
+        let w = next_state_word(v, at);
+        let start = w.start;
+        let end = w.end;
+        if start == end {
+            return n;
+        }
+        n += 1;
+        at = end;
+    }
+    n
+}
+
+// How many event words a transition has.
+fn events_of(tag: u32, v: &[u8]) -> u32
+    requires { ⌜ length (now v) < 65536 ⌝ }
+    ensures { λ r. ⌜ r ≡ length (wordSpans tag (key .event) (now (v .entry))) ⌝ }
+{
+    if tag == Tag::TRANSITION {
+        let n = event_words(v);
+        return n as u32;
+    }
+    0
+}
+
+// How many words the namelist of a send or an invoke has.
+fn names_of(tag: u32, v: &[u8]) -> u32
+    requires { ⌜ length (now v) < 65536 ⌝ }
+    ensures { λ r. ⌜ r ≡ length (wordSpans tag (key .namelist) (now (v .entry))) ⌝ }
+{
+    if (tag == Tag::SEND) | (tag == Tag::INVOKE) {
+        let n = state_words(v);
+        return n as u32;
+    }
+    0
+}
+
+pub fn heard(src: &[u8], p: Plain, ix: [u8; Plain::KEYS], own: u32, found: u32) -> Heard
+    requires { ⌜ ix ≡ indexOf (slotsOf p) ⌝ }
+    ensures { λ r. ⌜ r ≡ heardIn own found (parsedIn (now (src .entry)) p) ⌝ }
+{
+    let kind = p.kind;
+    let tag = p.tag;
+    let initial = has(ix, Key::INITIAL);
+    let expr = has(ix, Key::EXPR);
+    let binds = has(ix, Key::BINDING);
+    let typed = has(ix, Key::TYPE);
+    let binding = binding_of(tag, value(src, p, ix, Key::BINDING));
+    let code = type_code(tag, value(src, p, ix, Key::TYPE));
+    let events = value(src, p, ix, Key::EVENT);
+    let wildcard = wildcard_of(tag, events);
+    let count = events_of(tag, events);
+    let forward = forward_of(tag, value(src, p, ix, Key::AUTOFORWARD));
+    let names = names_of(tag, value(src, p, ix, Key::NAMELIST));
+    let bound = or_else(binds, binding, 0);
+    let mode = type_of(or_else(typed, code, 0));
+    let history = or_else(typed, code, 1);
+    Heard {
+        kind: kind,
+        tag: tag,
+        own: own,
+        initial: initial,
+        expr: expr,
+        binds: binds,
+        binding: bound,
+        mode: mode,
+        history: history,
+        wildcard: wildcard,
+        forward: forward,
+        events: count,
+        names: names,
+        found: found,
+    }
+}
+
+/// omitted: question 6. complete: 10. apart: 11.
+pub struct Asked {
+    pub omitted: bool,
+    pub complete: bool,
+    pub apart: bool,
+}
+
+// include; data or script with `src`; send with `delay`.
+fn left_out(ix: [u8; Plain::KEYS], tag: u32) -> bool
+    ensures { λ r. ⌜ r ≡ leftOutBy (isMarked ix) tag ⌝ }
+{
+    if tag == Tag::INCLUDE {
+        return true;
+    }
+    if (tag == Tag::DATA) | (tag == Tag::SCRIPT) {
+        return has(ix, Key::SRC);
+    }
+    if tag == Tag::SEND {
+        return has(ix, Key::DELAY);
+    }
+    false
+}
+
+fn complete(ix: [u8; Plain::KEYS], tag: u32) -> bool
+    ensures { λ r. ⌜ r ≡ completeBy (isMarked ix) tag ⌝ }
+{
+    if tag == Tag::DATA {
+        return has(ix, Key::ID);
+    }
+    if tag == Tag::FOREACH {
+        let array = has(ix, Key::ARRAY);
+        let item = has(ix, Key::ITEM);
+        return array & item;
+    }
+    if tag == Tag::IF {
+        return has(ix, Key::COND);
+    }
+    if tag == Tag::ELSEIF {
+        return has(ix, Key::COND);
+    }
+    if tag == Tag::PARAM {
+        return has(ix, Key::NAME);
+    }
+    if tag == Tag::ASSIGN {
+        return has(ix, Key::LOCATION);
+    }
+    if tag == Tag::RAISE {
+        return has(ix, Key::EVENT);
+    }
+    if tag == Tag::CANCEL {
+        let one = has(ix, Key::SENDID);
+        let other = has(ix, Key::SENDIDEXPR);
+        return one | other;
+    }
+    true
+}
+
+// Two keys of one element that exclude each other.
+fn keys_apart(ix: [u8; Plain::KEYS], tag: u32) -> bool
+    ensures { λ r. ⌜ r ≡ apartBy (isMarked ix) tag ⌝ }
+{
+    let send = Tag::SEND == tag;
+    let event = send & !(ix[Key::EVENT] == 0) & !(ix[Key::EVENTEXPR] == 0);
+    let target = send & !(ix[Key::TARGET] == 0) & !(ix[Key::TARGETEXPR] == 0);
+    let kind = send & !(ix[Key::TYPE] == 0) & !(ix[Key::TYPEEXPR] == 0);
+    let id = send & !(ix[Key::ID] == 0) & !(ix[Key::IDLOCATION] == 0);
+    let sendid = (Tag::CANCEL == tag) & !(ix[Key::SENDID] == 0) & !(ix[Key::SENDIDEXPR] == 0);
+    let expr = (Tag::PARAM == tag) & !(ix[Key::EXPR] == 0) & !(ix[Key::LOCATION] == 0);
+    !event & (!target & (!kind & (!id & (!sendid & (!expr & true)))))
+}
+
+// Whether an event has a text that is not white space alone.
+fn has_text(src: &[u8], p: Plain) -> bool
+    ensures { λ r. ⌜ r ≡ leb 1 (trimmedIn (parsedIn (now (src .entry)) p .text)) ⌝ }
+{
+    if p.kind == Kind::WHOLE {
+        let t = trim(bytes_of(src, p.text));
+        return 1 <= t.len;
+    }
+    false
+}
+
+fn data_apart(src: &[u8], p: Plain, tag: u32, expr: bool) -> bool
+    ensures { λ r. ⌜ r ≡ not (eqb tag (E.tag .datum) && expr && leb 1 (trimmedIn (parsedIn (now (src .entry)) p .text))) ⌝ }
+{
+    if tag == Tag::DATA {
+        if expr {
+            return !has_text(src, p);
+        }
+    }
+    true
+}
+
+// A text beside expr.
+fn text_apart(src: &[u8], p: Plain, ix: [u8; Plain::KEYS]) -> bool
+    requires { ⌜ ix ≡ indexOf (slotsOf p) ⌝ }
+    ensures { λ r. ⌜ r ≡ textApartIn (parsedIn (now (src .entry)) p) ⌝ }
+{
+    let tag = p.tag;
+    let whole = p.kind == Kind::WHOLE;
+    let expr = has(ix, Key::EXPR);
+    let v = value(src, p, ix, Key::EXPR);
+    let data = data_apart(src, p, tag, expr);
+    data
+        & !((tag == Tag::CONTENT) & expr & whole)
+        & !((tag == Tag::ASSIGN) & (1 <= v.len()) & whole)
+}
+
+pub fn ask(src: &[u8], p: Plain, ix: [u8; Plain::KEYS]) -> Asked
+    requires { ⌜ ix ≡ indexOf (slotsOf p) ⌝ }
+    ensures { λ r. ⌜ r ≡ askedIn (parsedIn (now (src .entry)) p) ⌝ }
+{
+    let tag = p.tag;
+    let left = left_out(ix, tag);
+    let all = complete(ix, tag);
+    let keys = keys_apart(ix, tag);
+    let text = text_apart(src, p, ix);
+    Asked {
+        omitted: left,
+        complete: all,
+        apart: keys & text,
+    }
+}
+
+// How many words a binding and a type may be: one that is not taken has the code after the last.
+const BINDINGS: u32 = 2;
+
+const TYPES: u32 = 3;
+
+fn choose(yes: bool, otherwise: u32, rest: u32) -> u32
+    ensures { λ r. ⌜ r ≡ pick yes otherwise rest ⌝ }
+{
+    if yes {
+        return rest;
+    }
+    otherwise
+}
+
+// The first no of the questions 5 to 12, 0 if there is none: `depth` elements are open, the innermost has the tag `parent`.
+pub fn first_no(h: Heard, a: Asked, innermost: bool, depth: u32, parent: u32, root: u32) -> u32
+    ensures { λ r. ⌜ r ≡ firstNo (questionsBy h a innermost depth parent root) ⌝ }
+{
+    let tag = h.tag;
+    let start = !(h.kind == Kind::END);
+    let may = parent_allowed(tag, parent);
+    let q12 = choose((h.binding < BINDINGS) & (h.history < TYPES), 12, 0);
+    let q11 = choose(a.apart, 11, q12);
+    let q10 = choose(!start | a.complete, 10, q11);
+    let q9 = choose(!start | !(tag == Tag::SCXML) | (root == 0), 9, q10);
+    let q8 = choose(!start | may, 8, q9);
+    let q7 = choose(!start | (depth < Chart::OPENED), 7, q8);
+    let q6 = choose(!a.omitted, 6, q7);
+    choose(start | innermost, 5, q6)
+}
+
+// Columns of a row of data: its state, and its id's cell.
+const STATE: usize = 0;
+
+const ID: usize = 1;
+
+const ID_LENGTH: usize = 2;
+
+fn is_datum(row: [u32; 8], text: &[u8], state: u32, w: &[u8]) -> bool
+    ensures { λ r. ⌜ r ≡ isDatum (now (text .entry)) row state (now (w .entry)) ⌝ }
+{
+    if row[STATE] == state {
+        let at = row[ID];
+        let len = row[ID_LENGTH];
+        return is_at(text, at, len, w);
+    }
+    false
+}
+
+// The number of the row with this state and id, from 1; the next one if there is none.
+fn find_datum(datums: &[[u32; 8]], text: &[u8], state: u32, w: &[u8]) -> usize
+    ensures { λ r. ⌜ r ≡ findDatum (now (text .entry)) (now (datums .entry)) state (now (w .entry)) ⌝ }
+{
+    let mut i = 0;
+    while i < datums.len() {
+        let row = datums[i];
+        if is_datum(row, text, state, w) {
+            return i + 1;
+        }
+        i += 1;
+    }
+    i + 1
+}
+
+// Of data; 0 of other elements.
+pub fn found(
+    datums: &[[u32; 8]],
+    text: &[u8],
+    state: u32,
+    src: &[u8],
+    p: Plain,
+    ix: [u8; Plain::KEYS],
+) -> usize
+    requires { ⌜ ix ≡ indexOf (slotsOf p) ⌝ }
+    ensures { λ r. ⌜ r ≡ foundIn (now (text .entry)) (now (datums .entry)) state (parsedIn (now (src .entry)) p) ⌝ }
+{
+    if p.tag == Tag::DATA {
+        let w = value(src, p, ix, Key::ID);
+        return find_datum(datums, text, state, w);
+    }
+    0
+}
+
+fn is_kept(row: [u8; 64], len: usize, name: &[u8]) -> bool
+    ensures { λ r. ⌜ r ≡ same (bytesAt row (record { off = 0; len = len })) (now (name .entry)) ⌝ }
+{
+    same_at(&row, 0, len, name)
+}
+
+// Columns of an open element: its tag, and the length of an unknown name.
+const TAG: usize = 0;
+
+const LENGTH: usize = 3;
+
+// Whether the innermost open element has this name: a known one by its tag.
+pub fn is_innermost(opened: &[[u32; 8]], names: &[[u8; 64]], tag: u32, name: &[u8]) -> bool
+    ensures { λ r. ⌜ r ≡ isInnermost (now (opened .entry)) (now (names .entry)) tag (now (name .entry)) ⌝ }
+{
+    let depth = opened.len();
+    if depth == 0 {
+        return false;
+    }
+    if names.len() < depth {
+        return false;
+    }
+    let i = depth - 1;
+    if opened[i][TAG] != tag {
+        return false;
+    }
+    if tag != Tag::UNKNOWN {
+        return true;
+    }
+    let len = index(opened[i][LENGTH]);
+    let row = names[i];
+    is_kept(row, len, name)
+}

@@ -1,0 +1,5 @@
+pub mod Laws
+pub mod NewLaw
+pub mod BroughtLaw
+pub mod NamesLaw
+pub mod FoundNames

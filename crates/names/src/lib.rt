@@ -1,0 +1,233 @@
+// State names: the row that has a name, and the names that an event brings: how many, and how many of them are new.
+use nesting::Key;
+use nesting::Kind;
+use nesting::Tag;
+use nesting::names_state;
+use plain::Plain;
+use plain::has;
+use plain::value;
+use rows::index;
+use text::same;
+use text::same_at;
+use words::next_state_word;
+use written::put_generated;
+ghost use mathlib.Core.Path.{_≡_};
+ghost use mathlib.Core.List.{_∷_, []};
+ghost use Prim.Native.Nat.{_+_, _<_, _≤_};
+ghost use lib.ListN.{length, take};
+ghost use Rattle.definition.specs.Text as T;
+ghost use Rattle.definition.specs.Text.{stateWords};
+ghost use Rattle.definition.specs.Rows.{textAt};
+ghost use Rattle.definition.specs.Limits.{limits01};
+ghost use Rattle.definition.specs.Look.{findName, nameCells};
+ghost use Rattle.plain.specs.Plain.{slotsOf, parsedIn};
+ghost use Rattle.plain.specs.Keyed.{indexOf};
+ghost use Rattle.names.specs.Names.{wordsFrom, occurs, newIf, firstNonzero, counted, stateNames, namesIn};
+
+// Columns of a state: its name's cell.
+const NAME: usize = 0;
+
+const NAME_LENGTH: usize = 1;
+
+// Whether the text of a cell is w. Of a cell inside the text the lengths are compared first, then the last bytes: names often begin alike.
+pub fn is_at(text: &[u8], at: u32, len: u32, w: &[u8]) -> bool
+    ensures { λ r. ⌜ r ≡ T.same (textAt (now (text .entry)) (record { at = at; len = len })) (now (w .entry)) ⌝ }
+{
+    if at == 0 {
+        return w.len() == 0;
+    }
+    let off = index(at) - 1;
+    let long = index(len);
+    if text.len() < off + long {
+        return same_at(text, off, long, w);
+    }
+    if long != w.len() {
+        return false;
+    }
+    if long == 0 {
+        return true;
+    }
+    let last = long - 1;
+    if text[off + last] != w[last] {
+        return false;
+    }
+    let end = off + long;
+    same(&text[off..end], w)
+}
+
+// The first of `count` rows whose name is w, from 0; `count` if there is none.
+pub fn find_state(states: &[[u32; 24]], count: usize, text: &[u8], w: &[u8]) -> usize
+    requires { ⌜ count ≤ length (now states) ⌝ }
+    ensures { λ r. ⌜ r ≡ findName (now (text .entry)) (nameCells (take count (now (states .entry)))) (now (w .entry)) ⌝ }
+    ensures { λ r. ⌜ r ≤ count ⌝ }
+{
+    let mut i = 0;
+    while i < count {
+        let at = states[i][NAME];
+        let len = states[i][NAME_LENGTH];
+        if is_at(text, at, len, w) {
+            return i;
+        }
+        i += 1;
+    }
+    i
+}
+
+// Of all rows.
+fn find_name(states: &[[u32; 24]], text: &[u8], w: &[u8]) -> usize
+    ensures { λ r. ⌜ r ≡ findName (now (text .entry)) (nameCells (now (states .entry))) (now (w .entry)) ⌝ }
+    ensures { λ r. ⌜ r ≤ length (now (states .entry)) ⌝ }
+{
+    find_state(states, states.len(), text, w)
+}
+
+// Whether w is one of the words of v from `from` on.
+fn is_word(v: &[u8], from: usize, w: &[u8]) -> bool
+    ensures { λ r. ⌜ r ≡ occurs (now (w .entry)) (wordsFrom (now (v .entry)) from) ⌝ }
+{
+    let mut at = from;
+    while at < v.len() {
+        let next = next_state_word(v, at);
+        let start = next.start;
+        let end = next.end;
+        if start == end {
+            return false;
+        }
+        if same(&v[start..end], w) {
+            return true;
+        }
+        at = end;
+    }
+    false
+}
+
+// 1 if w is not known and none of the words of v from `from` on; else 0.
+fn new_if(known: bool, w: &[u8], v: &[u8], from: usize) -> usize
+    ensures { λ r. ⌜ r ≡ newIf known (now (w .entry)) (wordsFrom (now (v .entry)) from) ⌝ }
+    ensures { λ r. ⌜ r ≤ 1 ⌝ }
+{
+    if known {
+        return 0;
+    }
+    if is_word(v, from, w) {
+        return 0;
+    }
+    1
+}
+
+/// The names of an event: the number of the first one's state, from 1, how many there are, the element's own included, and how many are new.
+pub struct Names {
+    pub own: usize,
+    pub refs: usize,
+    pub new: usize,
+}
+
+// The number that stays: the first.
+fn first(one: usize, other: usize) -> usize
+    ensures { λ r. ⌜ r ≡ firstNonzero one other ⌝ }
+{
+    if one == 0 {
+        return other;
+    }
+    one
+}
+
+// The words of v.
+fn count_names(states: &[[u32; 24]], text: &[u8], v: &[u8]) -> Names
+    ensures { λ r. ⌜ r ≡ counted (now (text .entry)) (nameCells (now (states .entry))) (stateWords (now (v .entry))) ⌝ }
+    ensures { λ r. ⌜ (r .refs ≤ length (now (v .entry))) × (r .new ≤ length (now (v .entry))) ⌝ }
+{
+    let count = states.len();
+    let mut own = 0;
+    let mut refs = 0;
+    let mut new = 0;
+    let mut at = 0;
+    while at < v.len() {
+        let next = next_state_word(v, at);
+        let start = next.start;
+        let end = next.end;
+        if start == end {
+            return Names { own, refs, new };
+        }
+        let w = &v[start..end];
+        let k = find_name(states, text, w);
+        own = first(own, k + 1);
+        new += new_if(k < count, w, v, end);
+        refs += 1;
+        at = end;
+    }
+    Names { own, refs, new }
+}
+
+// The element's own name, and the words of v.
+fn count_with(states: &[[u32; 24]], text: &[u8], own: &[u8], v: &[u8]) -> Names
+    requires { ⌜ length (now v) < 65536 ⌝ }
+    ensures { λ r. ⌜ r ≡ counted (now (text .entry)) (nameCells (now (states .entry))) (record { off = 0; word = now (own .entry) } ∷ stateWords (now (v .entry))) ⌝ }
+{
+    let n = count_names(states, text, v);
+    let k = find_name(states, text, own);
+    let one = new_if(k < states.len(), own, v, 0);
+    let refs = n.refs;
+    let new = n.new;
+    Names {
+        own: k + 1,
+        refs: refs + 1,
+        new: one + new,
+    }
+}
+
+// Of scxml, state, parallel, final and history; `drawn` names were generated before.
+fn look_state(
+    states: &[[u32; 24]],
+    text: &[u8],
+    src: &[u8],
+    p: Plain,
+    ix: [u8; Plain::KEYS],
+    drawn: u32,
+) -> Names
+    requires { ⌜ (drawn ≤ limits01 .drawn) × (ix ≡ indexOf (slotsOf p)) ⌝ }
+    ensures { λ r. ⌜ r ≡ counted (now (text .entry)) (nameCells (now (states .entry))) (stateNames drawn (parsedIn (now (src .entry)) p .values)) ⌝ }
+{
+    let initial = value(src, p, ix, Key::INITIAL);
+    if has(ix, Key::ID) {
+        let id = value(src, p, ix, Key::ID);
+        return count_with(states, text, id, initial);
+    }
+    let mut made = [0u8; 24];
+    let n = put_generated(&mut made, drawn + 1);
+    count_with(states, text, &made[0..n], initial)
+}
+
+fn none() -> Names
+    ensures { λ r. ⌜ r ≡ counted [] [] [] ⌝ }
+{
+    Names {
+        own: 0,
+        refs: 0,
+        new: 0,
+    }
+}
+
+// `drawn` names were generated before.
+pub fn look_names(
+    states: &[[u32; 24]],
+    text: &[u8],
+    src: &[u8],
+    p: Plain,
+    ix: [u8; Plain::KEYS],
+    drawn: u32,
+) -> Names
+    requires { ⌜ (drawn ≤ limits01 .drawn) × (ix ≡ indexOf (slotsOf p)) ⌝ }
+    ensures { λ r. ⌜ r ≡ namesIn (now (text .entry)) (nameCells (now (states .entry))) drawn (parsedIn (now (src .entry)) p) ⌝ }
+{
+    if p.kind == Kind::END {
+        return none();
+    }
+    if names_state(p.tag) {
+        return look_state(states, text, src, p, ix, drawn);
+    }
+    if p.tag == Tag::TRANSITION {
+        return count_names(states, text, value(src, p, ix, Key::TARGET));
+    }
+    none()
+}

@@ -1,0 +1,3 @@
+pub mod Laws
+pub mod PartLaws
+pub mod PayloadLaw

@@ -1,0 +1,302 @@
+// An event's parts as they are read: each stands unescaped in one slice, the event's own bytes or a copy.
+use event::Described;
+use lines::part_of;
+use lines::unescape;
+use nesting::Kind;
+use parts::Part;
+use parts::place;
+ghost use mathlib.Core.Path.{_≡_};
+ghost use Prim.Native.Nat.{_+_, _-_, _<_, _≤_};
+ghost use mathlib.Core.List.{_++_};
+ghost use lib.ListN.{length, take, drop};
+ghost use Rattle.event.specs.Described.{read};
+ghost use Rattle.plain.specs.Plain.{isPlain, plainly, spanOf, PlainOf, textPart, slotBytes, slotsOf, loadsIn, parsedIn, parsedRaw, Space};
+ghost use Rattle.plain.specs.Keyed.{keyPlace, atMost16, indexOf, isMarked, slotFor, valueIn};
+
+/// A part: its key's number, 0 where it has none, and where it stands.
+pub struct Slot {
+    pub code: u32,
+    pub at: u16,
+    pub len: u16,
+}
+
+/// An event: the first `count` of `slots` are its values, in order. Of a `whole` event `text` is the text.
+pub struct Plain {
+    pub kind: u32,
+    pub tag: u32,
+    pub count: usize,
+    pub name: Slot,
+    pub text: Slot,
+    pub slots: [Slot; Plain::SLOTS],
+}
+
+impl Plain {
+    /// The most values that an event in form has.
+    pub const SLOTS: usize = 16;
+
+    /// Places of the index by key: one for each number of a key, 0 for other keys, the last for numbers that no key has.
+    pub const KEYS: usize = 32;
+
+    /// Room for the parts of any event in form: its name, its values and its text.
+    pub const COPY: usize = 20_544;
+}
+
+fn is_plain_part(p: Part) -> bool
+    ensures { λ r. ⌜ r ≡ isPlain p ⌝ }
+{
+    p.len == p.size
+}
+
+// Whether no part has an escape, so that what is written is what is read.
+pub fn is_plain(d: Described) -> bool
+    ensures { λ r. ⌜ r ≡ plainly d ⌝ }
+{
+    let name = d.name;
+    let text = d.text;
+    let count = d.count;
+    let pairs = d.pairs;
+    if !is_plain_part(name) {
+        return false;
+    }
+    if !is_plain_part(text) {
+        return false;
+    }
+    let mut i = 0;
+    while i < Plain::SLOTS {
+        if count <= i {
+            return true;
+        }
+        let p = pairs[i];
+        let v = p.value;
+        if !is_plain_part(v) {
+            return false;
+        }
+        i += 1;
+    }
+    true
+}
+
+fn slot_of(code: u32, p: Part) -> Slot
+    ensures { λ r. ⌜ r ≡ spanOf code p ⌝ }
+{
+    let at = p.at;
+    let len = p.len;
+    Slot {
+        code: code,
+        at: at,
+        len: len,
+    }
+}
+
+// The parts where they are written.
+pub fn plain_of(d: Described) -> Plain
+    ensures { λ r. ⌜ PlainOf d r ⌝ }
+{
+    let kind = d.kind;
+    let tag = d.tag;
+    let count = d.count;
+    let pairs = d.pairs;
+    let dn = d.name;
+    let dt = d.text;
+    let name = slot_of(0, dn);
+    let text = slot_of(0, dt);
+    let mut slots = [name; Plain::SLOTS];
+    let mut i = 0;
+    while i < Plain::SLOTS {
+        if count <= i {
+            return Plain {
+                kind: kind,
+                tag: tag,
+                count: count,
+                name: name,
+                text: text,
+                slots: slots,
+            };
+        }
+        let p = pairs[i];
+        let v = p.value;
+        let s = slot_of(p.code, v);
+        slots[i] = s;
+        i += 1;
+    }
+    Plain {
+        kind: kind,
+        tag: tag,
+        count: count,
+        name: name,
+        text: text,
+        slots: slots,
+    }
+}
+
+// Unescapes a part into the copy at `pos`; where it ends there.
+fn copy_part(out: &mut [u8], pos: usize, raw: &[u8], p: Part) -> usize
+    requires { ⌜ pos + length (read (now raw) p) ≤ length (now out) ⌝ }
+    ensures { λ r. ⌜ r ≡ pos + length (read (now (raw .entry)) p) ⌝ }
+    ensures { λ r. ⌜ now (out .exit) ≡ take pos (now (out .entry)) ++ (read (now (raw .entry)) p ++ drop (pos + length (read (now (raw .entry)) p)) (now (out .entry))) ⌝ }
+{
+    let at = place(p.at);
+    let len = place(p.len);
+    let n = unescape(part_of(raw, at, len), &mut out[pos..]);
+    pos + n
+}
+
+fn slot_at(code: u32, start: usize, end: usize) -> Slot
+    requires { ⌜ (start ≤ end) × (end < 65536) ⌝ }
+    ensures { λ r. ⌜ r ≡ record { code = code; at = start; len = end - start } ⌝ }
+{
+    Slot {
+        code: code,
+        at: start as u16,
+        len: (end - start) as u16,
+    }
+}
+
+// A text only where the event has one.
+fn text_of(kind: u32, p: Part) -> Part
+    ensures { λ r. ⌜ r ≡ textPart kind p ⌝ }
+{
+    if kind == Kind::WHOLE {
+        return p;
+    }
+    Part {
+        at: 0,
+        len: 0,
+        size: 0,
+    }
+}
+
+// The parts unescaped into a copy.
+pub fn unescape_all(out: &mut [u8], raw: &[u8], d: Described) -> Plain
+    requires { ⌜ Space (now raw) d (length (now out)) ⌝ }
+    ensures { λ r. ⌜ parsedIn (now (out .exit)) r ≡ parsedRaw (now (raw .entry)) d ⌝ }
+{
+    let kind = d.kind;
+    let tag = d.tag;
+    let count = d.count;
+    let pairs = d.pairs;
+    let dn = d.name;
+    let given = d.text;
+    let dt = text_of(kind, given);
+    let first = copy_part(out, 0, raw, dn);
+    let name = slot_at(0, 0, first);
+    let second = copy_part(out, first, raw, dt);
+    let text = slot_at(0, first, second);
+    let mut slots = [name; Plain::SLOTS];
+    let mut pos = second;
+    let mut i = 0;
+    while i < Plain::SLOTS {
+        if count <= i {
+            return Plain {
+                kind: kind,
+                tag: tag,
+                count: count,
+                name: name,
+                text: text,
+                slots: slots,
+            };
+        }
+        let p = pairs[i];
+        let v = p.value;
+        let end = copy_part(out, pos, raw, v);
+        let s = slot_at(p.code, pos, end);
+        slots[i] = s;
+        pos = end;
+        i += 1;
+    }
+    Plain {
+        kind: kind,
+        tag: tag,
+        count: count,
+        name: name,
+        text: text,
+        slots: slots,
+    }
+}
+
+// A key's place in the index; the last one is for numbers that no key has.
+fn key_place(code: u32) -> usize
+    ensures { λ r. ⌜ r ≡ keyPlace code ⌝ }
+    ensures { λ r. ⌜ r < 32 ⌝ }
+{
+    if code < 31 {
+        return code as usize;
+    }
+    31
+}
+
+fn at_most_16(count: usize) -> usize
+    ensures { λ r. ⌜ r ≡ atMost16 count ⌝ }
+    ensures { λ r. ⌜ r ≤ 16 ⌝ }
+{
+    if count < Plain::SLOTS {
+        return count;
+    }
+    Plain::SLOTS
+}
+
+// By a key's number the place of its first value among the slots, from 1; 0 without it.
+pub fn index(p: Plain) -> [u8; Plain::KEYS]
+    ensures { λ r. ⌜ r ≡ indexOf (slotsOf p) ⌝ }
+{
+    let count = p.count;
+    let slots = p.slots;
+    let mut at = [0u8; Plain::KEYS];
+    let mut i = at_most_16(count);
+    while 0 < i {
+        i -= 1;
+        let s = slots[i];
+        let k = key_place(s.code);
+        at[k] = (i + 1) as u8;
+    }
+    at
+}
+
+pub fn has(ix: [u8; Plain::KEYS], k: usize) -> bool
+    requires { ⌜ k < 32 ⌝ }
+    ensures { λ r. ⌜ r ≡ isMarked ix k ⌝ }
+{
+    !(ix[k] == 0)
+}
+
+fn small(x: u8) -> usize
+    ensures { λ r. ⌜ r ≡ x ⌝ }
+{
+    x as usize
+}
+
+// The first slot of a key; an empty one without it.
+fn slot_for(p: Plain, ix: [u8; Plain::KEYS], k: usize) -> Slot
+    requires { ⌜ (k < 31) × (ix ≡ indexOf (slotsOf p)) ⌝ }
+    ensures { λ r. ⌜ r ≡ slotFor k (slotsOf p) ⌝ }
+{
+    let slots = p.slots;
+    let i = small(ix[k]);
+    if i == 0 {
+        return Slot {
+            code: 0,
+            at: 0,
+            len: 0,
+        };
+    }
+    slots[i - 1]
+}
+
+/// The bytes of a part.
+pub fn bytes_of(src: &[u8], s: Slot) -> &[u8]
+    ensures { λ r. ⌜ now r ≡ slotBytes (now (src .entry)) s ⌝ }
+    ensures { λ r. ⌜ length (now r) < 65536 ⌝ }
+{
+    let at = place(s.at);
+    let len = place(s.len);
+    part_of(src, at, len)
+}
+
+// A key's first value; no bytes without it.
+pub fn value(src: &[u8], p: Plain, ix: [u8; Plain::KEYS], k: usize) -> &[u8]
+    requires { ⌜ (k < 31) × (ix ≡ indexOf (slotsOf p)) ⌝ }
+    ensures { λ r. ⌜ now r ≡ valueIn k (loadsIn (now (src .entry)) (slotsOf p)) ⌝ }
+    ensures { λ r. ⌜ length (now r) < 65536 ⌝ }
+{
+    bytes_of(src, slot_for(p, ix, k))
+}
