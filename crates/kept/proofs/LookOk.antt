@@ -93,8 +93,12 @@ module _ (L : Limits) (s : Store) (e : Event) (K : OkOf L (s .text) (s .numbers)
   look-all : look s e .known ≡ cells ++ resolved .more
   look-all = unfold look in resolved .all
 
-  look-refs : All (InRange (length (look s e .known))) (look s e .refs)
+  pub look-refs : All (InRange (length (look s e .known))) (look s e .refs)
   look-refs = unfold look in resolved .refs
+
+  -- Names are entered behind those that are known.
+  pub look-grown : length (nameCells (tableOf n 1)) ≤ length (look s e .known)
+  look-grown = omega (arith, ap length look-all, length-append cells (resolved .more))
 
   pub look-in-text : LookIn (length t) (look s e)
   unfolding look

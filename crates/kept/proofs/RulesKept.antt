@@ -210,6 +210,12 @@ decided-kept L s e short rules W K form (accept k) d = go (firstNo (questions L 
         (kept-by L (textAfter s e) m k A (covered L s e short K W form Q), omega (arith, A .still .1, ap length (now-chart L s e K)))
     go (suc j) f = let h : reject (suc j) ≡ accept k = rw (f, decided) at d in let z : _≡_ {A = ℕ} 0 1 = cc in absurd (omega arith)
 
+-- By an event that is accepted.
+pub accepted-kept : (L : Limits) (s : Store) (e : Event) → leb (L .name) 64 ≡ true → keepsRules L s ≡ true → inForm L e ≡ true → (m : Numbers) → decided L (s .numbers) (look s e) ≡ accept m
+    → keepsRules L (record { numbers = m; text = textAfter s e }) ≡ true
+unfolding settled
+accepted-kept L s e short rules form m d = let both = rules-from L s rules in decided-kept L s e short rules (both .0) (both .1) form (accept m) d .0
+
 reply-kept : (L : Limits) (s : Store) (o : Option Event) → leb (L .name) 64 ≡ true → keepsRules L s ≡ true → KeptFrom L s (replyTo L s o .store)
 unfolding replyTo
 reply-kept L s none short rules = (rules, omega arith)

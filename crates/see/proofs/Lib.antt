@@ -1,0 +1,5 @@
+pub mod Scans
+pub mod Cells
+pub mod Told
+pub mod Enough
+pub mod All

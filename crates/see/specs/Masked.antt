@@ -1,0 +1,64 @@
+-- What an element's plan reads: the costly reads are made only for the elements that need them, and are 0 for the others.
+use Prim.Native.Nat.{ℕ}
+use mathlib.Core.Bool.{Bool, true, false, _||_}
+use lib.Dec.{eqb}
+use Rattle.definition.specs.Elements.{tag}
+use Rattle.plan.specs.declared.Walked.{Walked}
+use Rattle.plan.specs.declared.Seen.{Seen}
+use Rattle.plan.specs.Seen.{stateId}
+
+unfoldable pub isElse : ℕ → Bool
+isElse g = eqb g (tag .else) || eqb g (tag .elseif)
+
+unfoldable pub isPart : ℕ → Bool
+isPart g = eqb g (tag .param) || eqb g (tag .content)
+
+unfoldable pub isInvoked : ℕ → Bool
+isInvoked g = eqb g (tag .finalize) || eqb g (tag .param) || eqb g (tag .content)
+
+unfoldable pub isChildish : ℕ → Bool
+isChildish g = eqb g (tag .state) || eqb g (tag .parallel) || eqb g (tag .final)
+
+unfoldable pub numberIf : Bool → ℕ → ℕ
+numberIf true n = n
+numberIf false n = 0
+
+unfoldable pub boolIf : Bool → Bool → Bool
+boolIf true b = b
+boolIf false b = false
+
+unfoldable pub walkedIf : Bool → Walked → Walked
+walkedIf true w = w
+walkedIf false w = record { met = 0; at = 0 }
+
+unfoldable pub masked : ℕ → Seen → Seen
+unfolding isElse isPart isInvoked isChildish numberIf boolIf walkedIf
+masked g v =
+    record {
+      state = v .state;
+      transition = v .transition;
+      parent = v .parent;
+      current = v .current;
+      ids = v .ids;
+      docs = v .docs;
+      regions = v .regions;
+      entries = v .entries;
+      invokes = v .invokes;
+      datums = v .datums;
+      parameters = v .parameters;
+      closed = v .closed;
+      walk = walkedIf (isElse g) (v .walk);
+      entry = numberIf (isPart g) (v .entry);
+      kind = numberIf (isPart g) (v .kind);
+      invoke = numberIf (isInvoked g) (v .invoke);
+      place = numberIf (eqb g (tag .transition)) (v .place);
+      initial = v .initial;
+      donedata = v .donedata;
+      first = stateId (numberIf (eqb g (tag .state)) (v .first .0));
+      root = v .root;
+      begins = v .begins;
+      child = stateId (numberIf (eqb g (tag .scxml)) (v .child .0));
+      joined = boolIf (isChildish g) (v .joined);
+      own = v .own;
+      eldest = stateId (numberIf (eqb g (tag .scxml) || eqb g (tag .state)) (v .eldest .0));
+    }
