@@ -1,0 +1,31 @@
+-- A whole plan on the lent tables.
+use Prim.Native.Nat.{ℕ}
+use mathlib.Core.List.{List, [], _∷_}
+use Rattle.definition.specs.Rows.{Row, Table}
+use Rattle.definition.specs.Change.{alterRow}
+use Rattle.plan.specs.declared.Plan.{Plan}
+use Rattle.entries.specs.Whole.{chartRow, stateRowBy, transitionsIn, entriesIn, invokesIn, datumsIn, parametersIn}
+use Rattle.tables.specs.Whole.{regionsIn}
+use Rattle.tables.specs.Whole.{after, memberIn, openRowIn, openedRow, openRegionsIn}
+use Rattle.apply.specs.declared.Counts.{Counts}
+
+-- The twelve tables, in the order of their numbers.
+abbrev pub tablesOf : Table → Table → Table → Table → Table → Table → Table → Table → Table → Table → Table → Table → List Table
+tablesOf a b c d e f g h i j k l = a ∷ b ∷ c ∷ d ∷ e ∷ f ∷ g ∷ h ∷ i ∷ j ∷ k ∷ l ∷ []
+
+-- t: the event's texts; g: its element; m: what becomes of the open elements, whose rows are x and y.
+unfoldable pub appliedIn : List ℕ → ℕ → ℕ → ℕ → Row → Counts → Plan → Table → Table → Table → Table → Table → Table → Table → Table → Table → Table → Table → Table → List Table
+appliedIn t g m s name n p a b c d e f i j k o q r =
+    alterRow (p .chart .at) (chartRow t g (p .chart)) a
+    ∷ alterRow (p .states .at) (stateRowBy t g (p .states)) b
+    ∷ transitionsIn t g (p .transitions) (n .transitions) c
+    ∷ regionsIn (p .regions) (n .regions) d
+    ∷ entriesIn t g (p .entries) (n .entries) e
+    ∷ invokesIn t g (p .invokes) (n .invokes) f
+    ∷ datumsIn t g (p .datums) (n .datums) i
+    ∷ parametersIn t g (p .parameters) (n .parameters) j
+    ∷ memberIn (p .members .two) (after (n .members) (p .members .one .list)) (memberIn (p .members .one) (n .members) k)
+    ∷ openRowIn m (n .opened) o (openedRow g s (p .opened))
+    ∷ openRowIn m (n .opened) q name
+    ∷ openRegionsIn (p .pending) r
+    ∷ []

@@ -1,0 +1,38 @@
+-- The reading position after an event.
+use Prim.Native.Nat.{ℕ, zero, suc, _+_, _-_}
+use mathlib.Core.Bool.{Bool, true, false}
+use Rattle.definition.specs.declared.Position.{Position}
+use Rattle.definition.specs.Look.{oneIf}
+use Rattle.plan.specs.declared.Plan.{Plan}
+use Rattle.plan.specs.Decided.{oneUnless}
+use Rattle.arena.specs.declared.Written.{Written}
+
+-- One more is open, as many, or one less.
+unfoldable pub openedBy : ℕ → ℕ → ℕ
+openedBy zero n = n + 1
+openedBy (suc zero) n = n
+openedBy (suc (suc zero)) n = n
+openedBy (suc (suc (suc k))) n = n - 1
+
+-- k: the event's kind; w: what was written of its texts and names; g: whether a name was generated; c: its charge.
+unfoldable pub positionBy : Position → Plan → ℕ → Bool → ℕ → Written → Position
+unfolding openedBy oneUnless oneIf
+positionBy p q k g c w =
+    record {
+      opened = openedBy k (p .opened);
+      states = w .states;
+      transitions = p .transitions + oneUnless (q .transitions .number);
+      regions = p .regions + oneUnless (q .regions .one) + oneUnless (q .regions .two);
+      entries = p .entries + oneUnless (q .entries .kind);
+      invokes = p .invokes + oneUnless (q .invokes .added);
+      datums = p .datums + oneUnless (q .datums .added);
+      parameters = p .parameters + oneUnless (q .parameters .kind);
+      members = w .members + oneUnless (q .members .one .list) + oneUnless (q .members .two .list);
+      «open_regions» = q .pending .kept + oneUnless (q .pending .tag) + oneUnless (q .pending .by);
+      current = record { 0 = q .counters .current };
+      ids = q .counters .ids;
+      docs = q .counters .docs;
+      names = p .names + oneIf g;
+      used = w .used;
+      charge = p .charge + c;
+    }
