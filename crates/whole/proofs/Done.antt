@@ -21,7 +21,7 @@ use Rattle.apply.specs.Applied.{appliedIn}
 use Rattle.arena.specs.declared.Written.{Written}
 use Rattle.arena.specs.Storing.{Storable, Stored, texts}
 use Rattle.whole.specs.Accepted.{Accepted, afterwards}
-use Rattle.whole.specs.After.{positionBy}
+use Rattle.whole.specs.After.{positionBy, InRange}
 use Rattle.whole.proofs.Sizes.{Sized, sized}
 use Rattle.whole.proofs.Fitting as F
 
@@ -82,3 +82,12 @@ module _ (p : Position) (a b c d f h i j k o y r : Table) (tx : List ℕ) (v : P
     position-done u eu =
         eu ∙ (λ m. positionBy p q (A .parsed m .kind) made ((ec ∙ ap (λ (z : Parsed). chargeIn z (p .names)) (A .parsed) ∙ charge-law s e) m) w)
         ∙ F.position-now p a b c d f h i j k o y r tx e q Z (A .within) (A .form) (A .differ) (A .plan) (A .first) (A .long) st′ ms′ tx′ w W′ made (em ∙ ap madeIn (A .parsed))
+
+    charge-is : charge ≡ look s e .charge
+    unfolding parsedOf look storeOf
+    charge-is = ec ∙ ap (λ (z : Parsed). chargeIn z (p .names)) (A .parsed) ∙ charge-law s e
+
+    pub in-range : InRange p q charge w
+    in-range =
+        subst (λ (z : ℕ). InRange p q z w) (sym charge-is)
+        (F.in-range p a b c d f h i j k o y r tx e q Z (A .within) (A .form) (A .differ) (A .plan) (A .first) (A .long) st′ ms′ tx′ w W′)

@@ -26,7 +26,7 @@ use Rattle.plain.proofs.PlainLaw as Plain
 use Rattle.definition.specs.Reader.{over, overAll, Verdict, accept, reject, decided, longEnough}
 use Rattle.definition.specs.Change.{onTable, openRegionRow, withoutLast}
 use Rattle.payload.specs.Laid.{laid}
-use Rattle.whole.specs.After.{openedBy, positionBy}
+use Rattle.whole.specs.After.{openedBy, positionBy, InRange}
 use Rattle.fill.specs.Fill.{isWords}
 use Rattle.texts.proofs.LookLaw.{fields-placed}
 use Rattle.apply.specs.Applied.{appliedIn}
@@ -546,4 +546,23 @@ module _ (p : Position) (a b c d f h i j k o y r : Table) (tx : List ℕ) (e : E
                 names = names v;
                 used = used-now v;
                 charge = p .charge + l .charge;
+              }
+
+          pub in-range : InRange p q (l .charge) z
+          unfolding storeOf taken counts
+          in-range =
+              record {
+                opened = omega (arith, Z .opened .0);
+                states = omega (arith, count-now, entered-fits);
+                transitions = omega (arith, Z .transitions .0);
+                regions = omega (arith, Z .regions .0);
+                entries = omega (arith, Z .entries .0);
+                invokes = omega (arith, Z .invokes .0);
+                datums = omega (arith, Z .datums .0);
+                parameters = omega (arith, Z .parameters .0);
+                members = omega (arith, listed-now, listed-fits);
+                pending = omega (arith, regions-after);
+                names = omega (arith, F .names);
+                used = omega (arith, W .used, payload-fits);
+                charge = omega (arith, charge-within);
               }

@@ -1,5 +1,5 @@
 -- The reading position after an event.
-use Prim.Native.Nat.{ℕ, zero, suc, _+_, _-_}
+use Prim.Native.Nat.{ℕ, zero, suc, _+_, _-_, _<_}
 use mathlib.Core.Bool.{Bool, true, false}
 use Rattle.definition.specs.declared.Position.{Position}
 use Rattle.definition.specs.Look.{oneIf}
@@ -36,3 +36,19 @@ positionBy p q k g c w =
       used = w .used;
       charge = p .charge + c;
     }
+
+-- No number of a position leaves 16 bits, on the way to the new ones too.
+pub record InRange (p : Position) (q : Plan) (c : ℕ) (w : Written) : Type 0 where
+  pub opened : p .opened < 65536
+  pub states : w .states < 65536
+  pub transitions : p .transitions < 65536
+  pub regions : p .regions < 65536
+  pub entries : p .entries < 65536
+  pub invokes : p .invokes < 65536
+  pub datums : p .datums < 65536
+  pub parameters : p .parameters < 65536
+  pub members : w .members < 65536
+  pub pending : q .pending .kept < 65536
+  pub names : p .names < 65536
+  pub used : w .used < 65536
+  pub charge : p .charge + c < 65536

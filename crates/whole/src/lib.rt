@@ -1,1 +1,1 @@
-// What an accepted event leaves of everything that is lent: laws, for the function that will write it.
+// What an accepted event leaves of everything that is lent: laws, for `write`.

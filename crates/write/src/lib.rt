@@ -1,0 +1,206 @@
+// All that an accepted event does, written. Nothing here can fail: what is asked of the caller is that the event gets 0.
+use apply::Counts;
+use apply::apply;
+use apply::name_row;
+use arena::Written;
+use arena::write_texts;
+use definition::Position;
+use definition::RegionId;
+use lines::part_of;
+use parts::place;
+use plain::Plain;
+use plain::Slot;
+use plan::ChartPlan;
+use plan::CounterPlan;
+use plan::DatumPlan;
+use plan::EntryPlan;
+use plan::InvokePlan;
+use plan::MemberPlan;
+use plan::MembersPlan;
+use plan::OpenPlan;
+use plan::OpenRegionPlan;
+use plan::ParameterPlan;
+use plan::Plan;
+use plan::RegionPlan;
+use plan::StatePlan;
+use plan::TransitionPlan;
+use rows::index;
+ghost use mathlib.Core.Path.{_≡_};
+ghost use Prim.Native.Nat.{_≤_, _<_};
+ghost use lib.ListN.{length};
+ghost use Rattle.definition.specs.Look.{oneIf, keptName};
+ghost use Rattle.lines.specs.Parts.{part};
+ghost use Rattle.plain.specs.Plain.{parsedIn};
+ghost use Rattle.plan.specs.After.{moveOf};
+ghost use Rattle.plan.specs.Decided.{oneUnless};
+ghost use Rattle.apply.specs.Applied.{tablesOf};
+ghost use Rattle.whole.specs.After.{openedBy, positionBy, InRange};
+ghost use Rattle.write.specs.Leaves.{rowsOf, Ready, Leaves};
+
+fn moves(kind: u32) -> u32
+    ensures { λ r. ⌜ r ≡ moveOf kind ⌝ }
+{
+    match kind {
+        0 => 0,
+        1 => 1,
+        2 => 1,
+        _ => 2,
+    }
+}
+
+fn one(k: u32) -> u32
+    ensures { λ r. ⌜ (r ≡ oneUnless k) × (r ≤ 1) ⌝ }
+{
+    if k == 0 {
+        return 0;
+    }
+    1
+}
+
+fn one_if(b: bool) -> u32
+    ensures { λ r. ⌜ (r ≡ oneIf b) × (r ≤ 1) ⌝ }
+{
+    if b {
+        return 1;
+    }
+    0
+}
+
+fn opened_after(kind: u32, n: u32) -> u32
+    requires { ⌜ n < 65536 ⌝ }
+    ensures { λ r. ⌜ r ≡ openedBy kind n ⌝ }
+{
+    if kind == 0 {
+        return n + 1;
+    }
+    if kind == 1 {
+        return n;
+    }
+    if kind == 2 {
+        return n;
+    }
+    if n == 0 {
+        return 0;
+    }
+    n - 1
+}
+
+fn own_name(src: &[u8], p: Plain) -> &[u8]
+    ensures { λ r. ⌜ now r ≡ part (now (src .entry)) (p .name .at) (p .name .len) ⌝ }
+{
+    let s = p.name;
+    let at = place(s.at);
+    let len = place(s.len);
+    part_of(src, at, len)
+}
+
+// A known element is kept by its number alone.
+fn name_length(tag: u32, name: &[u8]) -> u32
+    requires { ⌜ length (now name) ≤ 64 ⌝ }
+    ensures { λ r. ⌜ r ≡ length (keptName tag (now (name .entry))) ⌝ }
+{
+    if tag == 0 {
+        return name.len() as u32;
+    }
+    0
+}
+
+fn rows_of(p: Position, members: usize) -> Counts
+    ensures { λ r. ⌜ r ≡ rowsOf p members ⌝ }
+{
+    Counts {
+        transitions: index(p.transitions),
+        regions: index(p.regions),
+        entries: index(p.entries),
+        invokes: index(p.invokes),
+        datums: index(p.datums),
+        parameters: index(p.parameters),
+        members: members,
+        opened: index(p.opened),
+    }
+}
+
+fn position_after(p: Position, q: Plan, kind: u32, made: bool, charge: u32, w: Written) -> Position
+    requires { ⌜ InRange p q charge w ⌝ }
+    ensures { λ r. ⌜ r ≡ positionBy p q kind made charge w ⌝ }
+{
+    let states = w.states;
+    let members = w.members;
+    let used = w.used;
+    Position {
+        opened: opened_after(kind, p.opened),
+        states: states as u32,
+        transitions: p.transitions + one(q.transitions.number),
+        regions: p.regions + one(q.regions.one) + one(q.regions.two),
+        entries: p.entries + one(q.entries.kind),
+        invokes: p.invokes + one(q.invokes.added),
+        datums: p.datums + one(q.datums.added),
+        parameters: p.parameters + one(q.parameters.kind),
+        members: members as u32 + one(q.members.one.list) + one(q.members.two.list),
+        open_regions: q.pending.kept + one(q.pending.tag) + one(q.pending.by),
+        current: RegionId(q.counters.current),
+        ids: q.counters.ids,
+        docs: q.counters.docs,
+        names: p.names + one_if(made),
+        used: used as u32,
+        charge: p.charge + charge,
+    }
+}
+
+/// All that an accepted event does: its texts, words and names first, then a row here and there, by its plan.
+pub fn write(
+    chart: &mut [[u32; 24]],
+    states: &mut [[u32; 24]],
+    transitions: &mut [[u32; 8]],
+    regions: &mut [[u32; 8]],
+    entries: &mut [[u32; 48]],
+    invokes: &mut [[u32; 24]],
+    datums: &mut [[u32; 8]],
+    parameters: &mut [[u32; 8]],
+    members: &mut [[u32; 8]],
+    opened: &mut [[u32; 8]],
+    names: &mut [[u8; 64]],
+    pending: &mut [[u32; 8]],
+    text: &mut [u8],
+    p: Position,
+    src: &[u8],
+    pl: Plain,
+    made: bool,
+    charge: u32,
+    q: Plan,
+) -> Position
+    requires { ⌜ Ready (record { tables = tablesOf (now chart) (now states) (now transitions) (now regions) (now entries) (now invokes) (now datums) (now parameters) (now members) (now opened) (now names) (now pending); text = now text }) p (parsedIn (now src) pl) q made charge ⌝ }
+    ensures { λ r. ⌜ Leaves (record { tables = tablesOf (now (chart .entry)) (now (states .entry)) (now (transitions .entry)) (now (regions .entry)) (now (entries .entry)) (now (invokes .entry)) (now (datums .entry)) (now (parameters .entry)) (now (members .entry)) (now (opened .entry)) (now (names .entry)) (now (pending .entry)); text = now (text .entry) }) p (parsedIn (now (src .entry)) pl) q (record { tables = tablesOf (now (chart .exit)) (now (states .exit)) (now (transitions .exit)) (now (regions .exit)) (now (entries .exit)) (now (invokes .exit)) (now (datums .exit)) (now (parameters .exit)) (now (members .exit)) (now (opened .exit)) (now (names .exit)) (now (pending .exit)); text = now (text .exit) }) r ⌝ }
+{
+    let m = q.members;
+    let w = write_texts(states, members, text, p, src, pl, made, m);
+    let name = own_name(src, pl);
+    let row = name_row(pl.tag, name);
+    let length = name_length(pl.tag, name);
+    let listed = w.members;
+    let n = rows_of(p, listed);
+    let t = w.texts;
+    let to = moves(pl.kind);
+    apply(
+        chart,
+        states,
+        transitions,
+        regions,
+        entries,
+        invokes,
+        datums,
+        parameters,
+        members,
+        opened,
+        names,
+        pending,
+        &t,
+        pl.tag,
+        to,
+        length,
+        row,
+        n,
+        q,
+    );
+    position_after(p, q, pl.kind, made, charge, w)
+}
