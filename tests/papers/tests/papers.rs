@@ -105,6 +105,15 @@ fn edits() -> Vec<(String, Replacement)> {
     parts.collect()
 }
 
+/// An edit whose text is no longer in its file tries nothing; `rt ci` would say so, but only at the end.
+#[test]
+fn edits_find_what_they_replace() {
+    for (folder, part) in edits() {
+        let source = read(&Path::new(&folder).join(&part.file));
+        assert!(source.contains(&part.old), "{folder}: {}: not in {}", part.old, part.file);
+    }
+}
+
 /// An edit that brings a name that its file does not know is refused for that, whatever the contract says.
 #[test]
 fn edits_use_names_in_scope() {
