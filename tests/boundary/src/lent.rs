@@ -27,6 +27,25 @@ pub struct Position {
     pub charge: u32,
 }
 
+impl Position {
+    /// Rows in use of each table after the chart's, in the order of `LIMITS`. An open element has a row in two tables.
+    pub fn rows(&self) -> [u32; 11] {
+        [
+            self.states,
+            self.transitions,
+            self.regions,
+            self.entries,
+            self.invokes,
+            self.datums,
+            self.parameters,
+            self.members,
+            self.opened,
+            self.opened,
+            self.open_regions,
+        ]
+    }
+}
+
 #[derive(Debug, Clone, PartialEq, Eq)]
 pub struct Lent {
     pub chart: Vec<[u32; 24]>,

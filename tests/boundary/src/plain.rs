@@ -1,7 +1,8 @@
 //! Question 2 as one would write it by hand in Rust, for speed only: numbers searched by halves, names by a hash first. It is held to `rules` in the tests.
 
+use crate::described::ELEMENTS;
 use crate::lent::{Lent, CHARGE, LIMITS};
-use crate::rules::{element, ELEMENTS};
+use crate::rules::element;
 
 struct Held<'a> {
     transitions: &'a [[u32; 8]],
@@ -151,20 +152,7 @@ fn opened_fit(l: &Lent, held: &Held) -> bool {
 /// Question 2, of slices that are long enough.
 pub fn in_order(l: &Lent) -> bool {
     let p = &l.position;
-    let counts = [
-        p.states,
-        p.transitions,
-        p.regions,
-        p.entries,
-        p.invokes,
-        p.datums,
-        p.parameters,
-        p.members,
-        p.opened,
-        p.opened,
-        p.open_regions,
-    ];
-    if !counts.iter().zip(&LIMITS[1..]).all(|(n, most)| *n as usize <= *most)
+    if !p.rows().iter().zip(&LIMITS[1..]).all(|(n, most)| *n as usize <= *most)
         || [p.ids, p.docs, p.names, p.charge].iter().any(|n| *n as usize > CHARGE)
         || p.used > p.charge
     {

@@ -1,39 +1,9 @@
 //! Questions 1 and 2 in plain Rust, written from document 01 ('Chart rules and limits', 'The reader's questions') and docs/DECISIONS.md, 46 to 50 and
 //! 66 to 73, and not from the proved code: the other side of a comparison.
 
+use crate::described::ELEMENTS;
 use crate::lent::{Lent, CHARGE, LIMITS};
 use std::collections::HashSet;
-
-/// Elements in the order of their numbers, from 1.
-pub const ELEMENTS: [&str; 27] = [
-    "scxml",
-    "state",
-    "parallel",
-    "datamodel",
-    "final",
-    "history",
-    "initial",
-    "invoke",
-    "data",
-    "donedata",
-    "finalize",
-    "else",
-    "elseif",
-    "param",
-    "content",
-    "transition",
-    "onentry",
-    "onexit",
-    "send",
-    "raise",
-    "cancel",
-    "log",
-    "assign",
-    "if",
-    "foreach",
-    "script",
-    "include",
-];
 
 /// An element's number; 0 where the name is unknown.
 pub fn element(name: &str) -> u32 {
@@ -221,21 +191,8 @@ fn name<'a>(text: &'a [u8], row: &[u32; 24]) -> &'a [u8] {
 
 fn in_order(l: &Lent) -> bool {
     let p = &l.position;
-    let counts = [
-        p.states,
-        p.transitions,
-        p.regions,
-        p.entries,
-        p.invokes,
-        p.datums,
-        p.parameters,
-        p.members,
-        p.opened,
-        p.opened,
-        p.open_regions,
-    ];
     let drawn = [p.ids, p.docs, p.names, p.charge];
-    if !counts.iter().zip(&LIMITS[1..]).all(|(n, most)| *n as usize <= *most)
+    if !p.rows().iter().zip(&LIMITS[1..]).all(|(n, most)| *n as usize <= *most)
         || drawn.iter().any(|n| *n > 65_535)
         || p.used > p.charge
     {

@@ -1,7 +1,7 @@
 //! Questions 1 and 2 and the reading of rows, through the C boundary: held to a plain Rust model and to the judge's charts.
 
 use boundary::charted::{chart_of, lend, recorded};
-use boundary::lent::{Lent, BYTES};
+use boundary::lent::{Lent, BYTES, CHARGE, LIMITS};
 use boundary::rules;
 use rufsm::rng::Rng;
 
@@ -206,23 +206,8 @@ fn put(lent: &mut Lent, spot: Spot, new: u32) -> u32 {
 fn spot(rng: &mut Rng, lent: &Lent) -> Spot {
     const WIDTHS: [usize; 14] = [24, 24, 8, 8, 48, 24, 8, 8, 8, 8, 64, 8, 1, 16];
     let p = &lent.position;
-    let used = [
-        0,
-        p.states,
-        p.transitions,
-        p.regions,
-        p.entries,
-        p.invokes,
-        p.datums,
-        p.parameters,
-        p.members,
-        p.opened,
-        p.opened,
-        p.open_regions,
-        p.used,
-        0,
-    ];
-    let lengths = [1, 256, 512, 512, 2_048, 64, 256, 512, 4_096, 32, 32, 64, 65_535, 1];
+    let used = [&[0], &p.rows()[..], &[p.used, 0]].concat();
+    let lengths = [&LIMITS[..], &[CHARGE, 1]].concat();
     let mut table = rng.below(14);
     if used[table] == 0 {
         table = rng.below(14);
