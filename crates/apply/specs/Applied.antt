@@ -13,7 +13,7 @@ use Rattle.apply.specs.declared.Counts.{Counts}
 abbrev pub tablesOf : Table → Table → Table → Table → Table → Table → Table → Table → Table → Table → Table → Table → List Table
 tablesOf a b c d e f g h i j k l = a ∷ b ∷ c ∷ d ∷ e ∷ f ∷ g ∷ h ∷ i ∷ j ∷ k ∷ l ∷ []
 
--- t: the event's texts; g: its element; m: what becomes of the open elements, whose rows are x and y.
+-- t: the event's texts; g: its element; m: what becomes of the open elements; s and name: its own name's length and row; n: the rows in use.
 unfoldable pub appliedIn : List ℕ → ℕ → ℕ → ℕ → Row → Counts → Plan → Table → Table → Table → Table → Table → Table → Table → Table → Table → Table → Table → Table → List Table
 appliedIn t g m s name n p a b c d e f i j k o q r =
     alterRow (p .chart .at) (chartRow t g (p .chart)) a
