@@ -18,10 +18,10 @@ use Rattle.apply.specs.declared.Counts.{Counts}
 use Rattle.apply.specs.Applied.{appliedIn}
 use Rattle.arena.specs.declared.Written.{Written}
 use Rattle.arena.specs.Storing.{Storable, Stored}
-use Rattle.whole.specs.Accepted.{Accepted}
+use Rattle.whole.specs.Accepted.{Accepted, Ready}
 use Rattle.whole.specs.After.{positionBy, InRange}
 use Rattle.whole.proofs.Done as D
-use Rattle.write.specs.Leaves.{rowsOf, Ready, Leaves}
+use Rattle.write.specs.Leaves.{rowsOf, Leaves}
 
 module _ (p : Position) (a b c d f h i j k o y r : Table) (tx : List ℕ) (v : Parsed) (q : Plan) (made : Bool) (charge : ℕ) where
   abbrev x : Lent

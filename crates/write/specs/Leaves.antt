@@ -1,11 +1,9 @@
 -- Before and after the writing of an accepted event.
 use Prim.Native.Nat.{ℕ}
 use mathlib.Core.Path.{_≡_}
-use mathlib.Core.Bool.{Bool}
 use Rattle.definition.specs.declared.Position.{Position}
 use Rattle.definition.specs.Reader.{Lent, storeOf, lentAfter, positionOf}
 use Rattle.plain.specs.Plain.{Parsed}
-use Rattle.payload.specs.Payload.{madeIn, chargeIn}
 use Rattle.plan.specs.declared.Plan.{Plan}
 use Rattle.apply.specs.declared.Counts.{Counts}
 use Rattle.whole.specs.Accepted.{Accepted, afterwards}
@@ -23,12 +21,6 @@ rowsOf p m =
       members = m;
       opened = p .opened;
     }
-
--- The event gets 0 by the plan q; made: it draws a name; charge: what it takes of the budget.
-pub record Ready (x : Lent) (p : Position) (v : Parsed) (q : Plan) (made : Bool) (charge : ℕ) : Type 0 where
-  pub accepted : Accepted x p v q
-  pub makes : made ≡ madeIn v
-  pub takes : charge ≡ chargeIn v (p .names)
 
 -- What is lent then, and the position, are those of the definition's store.
 pub record Leaves (x : Lent) (p : Position) (v : Parsed) (q : Plan) (x′ : Lent) (u : Position) : Type 0 where

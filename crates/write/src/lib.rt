@@ -34,8 +34,9 @@ ghost use Rattle.plain.specs.Plain.{parsedIn};
 ghost use Rattle.plan.specs.After.{moveOf};
 ghost use Rattle.plan.specs.Decided.{oneUnless};
 ghost use Rattle.apply.specs.Applied.{tablesOf};
+ghost use Rattle.whole.specs.Accepted.{Ready};
 ghost use Rattle.whole.specs.After.{openedBy, positionBy, InRange};
-ghost use Rattle.write.specs.Leaves.{rowsOf, Ready, Leaves};
+ghost use Rattle.write.specs.Leaves.{rowsOf, Leaves};
 
 fn moves(kind: u32) -> u32
     ensures { λ r. ⌜ r ≡ moveOf kind ⌝ }
