@@ -7,14 +7,14 @@ use lib.ListN.{length}
 use Rattle.definition.specs.declared.Position.{Position}
 use Rattle.definition.specs.Rows.{Row, Table, Store}
 use Rattle.definition.specs.Event.{Event}
-use Rattle.definition.specs.Look.{look, keptName, nameRow, textAfter}
+use Rattle.definition.specs.Look.{oneIf, look, keptName, nameRow, textAfter}
 use Rattle.definition.specs.Change.{entered}
 use Rattle.definition.specs.Reader.{Lent, storeOf, lentAfter, overAll, over, positionOf}
 use Rattle.plain.specs.Plain.{Parsed, parsedOf}
 use Rattle.plan.specs.declared.Plan.{Plan}
 use Rattle.plan.specs.After.{moveOf, applied}
 use Rattle.payload.specs.Payload.{madeIn, chargeIn}
-use Rattle.payload.proofs.PayloadLaw.{charge-law}
+use Rattle.payload.proofs.PayloadLaw.{charge-law, made-law}
 use Rattle.fill.specs.Fill.{textsOf}
 use Rattle.apply.specs.declared.Counts.{Counts}
 use Rattle.apply.specs.Applied.{appliedIn}
@@ -87,7 +87,9 @@ module _ (p : Position) (a b c d f h i j k o y r : Table) (tx : List ℕ) (v : P
     unfolding parsedOf look storeOf
     charge-is = ec ∙ ap (λ (z : Parsed). chargeIn z (p .names)) (A .parsed) ∙ charge-law s e
 
-    pub in-range : InRange p q charge w
+    pub in-range : InRange p q (v .kind) made charge w
+    unfolding parsedOf look
     in-range =
-        subst (λ (z : ℕ). InRange p q z w) (sym charge-is)
-        (F.in-range p a b c d f h i j k o y r tx e q Z (A .within) (A .form) (A .differ) (A .plan) (A .first) (A .long) st′ ms′ tx′ w W′)
+        subst (λ (z : ℕ). InRange p q (v .kind) made z w) (sym charge-is) (
+        subst (λ (z : Parsed). InRange p q (z .kind) made (look s e .charge) w) (sym (A .parsed))
+        (F.in-range p a b c d f h i j k o y r tx e q Z (A .within) (A .form) (A .differ) (A .plan) (A .first) (A .long) st′ ms′ tx′ w W′ made (ap oneIf (em ∙ ap madeIn (A .parsed)) ∙ made-law s e)))

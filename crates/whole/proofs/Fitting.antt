@@ -130,6 +130,12 @@ module _ (p : Position) (a b c d f h i j k o y r : Table) (tx : List ℕ) (e : E
     charge-within =
         le-of (n .charge + l .charge) 65535 (and-right (leb (q .counters .ids) 65535 && leb (q .counters .docs) 65535 && leb (n .names + l .generated) 65535) (leb (n .charge + l .charge) 65535) (and-right counted drawn within))
 
+    names-within : n .names + l .generated ≤ 65535
+    unfolding staysWithin
+    names-within =
+        le-of (n .names + l .generated) 65535 (and-right (leb (q .counters .ids) 65535 && leb (q .counters .docs) 65535) (leb (n .names + l .generated) 65535) (
+        and-left (leb (q .counters .ids) 65535 && leb (q .counters .docs) 65535 && leb (n .names + l .generated) 65535) (leb (n .charge + l .charge) 65535) (and-right counted drawn within)))
+
     pub row-within : (t : ℕ) → t < 9 → getD (countsAfter l q n) t 0 ≤ getD (chartLimits limits01) t 0
     unfolding countsAfter chartLimits
     row-within t z = most-at (countsAfter l q n) (chartLimits limits01) t rows-within z z
@@ -548,11 +554,11 @@ module _ (p : Position) (a b c d f h i j k o y r : Table) (tx : List ℕ) (e : E
                 charge = p .charge + l .charge;
               }
 
-          pub in-range : InRange p q (l .charge) z
-          unfolding storeOf taken counts
-          in-range =
+          pub in-range : (made : Bool) → oneIf made ≡ l .generated → InRange p q (e .kind) made (l .charge) z
+          unfolding storeOf taken counts moveOf
+          in-range made g =
               record {
-                opened = omega (arith, Z .opened .0);
+                opened = λ h. opened-room (ap moveOf h);
                 states = omega (arith, count-now, entered-fits);
                 transitions = omega (arith, Z .transitions .0);
                 regions = omega (arith, Z .regions .0);
@@ -562,7 +568,7 @@ module _ (p : Position) (a b c d f h i j k o y r : Table) (tx : List ℕ) (e : E
                 parameters = omega (arith, Z .parameters .0);
                 members = omega (arith, listed-now, listed-fits);
                 pending = omega (arith, regions-after);
-                names = omega (arith, F .names);
+                names = omega (arith, g, names-within);
                 used = omega (arith, W .used, payload-fits);
                 charge = omega (arith, charge-within);
               }

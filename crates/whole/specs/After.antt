@@ -1,5 +1,6 @@
 -- The reading position after an event.
-use Prim.Native.Nat.{ℕ, zero, suc, _+_, _-_, _<_}
+use Prim.Native.Nat.{ℕ, zero, suc, _+_, _-_, _<_, _≤_}
+use mathlib.Core.Path.{_≡_}
 use mathlib.Core.Bool.{Bool, true, false}
 use Rattle.definition.specs.declared.Position.{Position}
 use Rattle.definition.specs.Look.{oneIf}
@@ -37,9 +38,9 @@ positionBy p q k g c w =
       charge = p .charge + c;
     }
 
--- No number of a position leaves 16 bits, on the way to the new ones too.
-pub record InRange (p : Position) (q : Plan) (c : ℕ) (w : Written) : Type 0 where
-  pub opened : p .opened < 65536
+-- No number of a position leaves 16 bits, on the way to the new ones too; there is room for one more open element where one opens, and for a name.
+pub record InRange (p : Position) (q : Plan) (k : ℕ) (g : Bool) (c : ℕ) (w : Written) : Type 0 where
+  pub opened : k ≡ 0 → p .opened < 32
   pub states : w .states < 65536
   pub transitions : p .transitions < 65536
   pub regions : p .regions < 65536
@@ -49,6 +50,6 @@ pub record InRange (p : Position) (q : Plan) (c : ℕ) (w : Written) : Type 0 wh
   pub parameters : p .parameters < 65536
   pub members : w .members < 65536
   pub pending : q .pending .kept < 65536
-  pub names : p .names < 65536
+  pub names : p .names + oneIf g ≤ 65535
   pub used : w .used < 65536
   pub charge : p .charge + c < 65536

@@ -38,7 +38,7 @@ module _ (p : Position) (a b c d f h i j k o y r : Table) (tx : List ℕ) (v : P
       name-of = form (R .accepted .event) (R .accepted .form) .name
 
   module _ (R : Ready x p v q made charge) (st′ ms′ : Table) (tx′ : List ℕ) (w : Written) (W : Stored p v b k tx (q .members) st′ ms′ tx′ w) where
-    pub in-range : InRange p q charge w
+    pub in-range : InRange p q (v .kind) made charge w
     in-range = D.in-range p a b c d f h i j k o y r tx v q (R .accepted) made (R .makes) charge (R .takes) st′ ms′ tx′ w W
 
     pub apply-asks : (n : Counts) → n ≡ rowsOf p (w .members) → ((n .regions < 65536) × (n .members < 65536)) × (q .pending .kept < 65536)

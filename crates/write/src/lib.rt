@@ -1,11 +1,11 @@
 // All that an accepted event does, written. Nothing here can fail: what is asked of the caller is that the event gets 0.
+use advance::position_after;
 use apply::Counts;
 use apply::apply;
 use apply::name_row;
 use arena::Written;
 use arena::write_texts;
 use definition::Position;
-use definition::RegionId;
 use lines::part_of;
 use parts::place;
 use plain::Plain;
@@ -26,16 +26,14 @@ use plan::StatePlan;
 use plan::TransitionPlan;
 use rows::index;
 ghost use mathlib.Core.Path.{_≡_};
-ghost use Prim.Native.Nat.{_≤_, _<_};
+ghost use Prim.Native.Nat.{_≤_};
 ghost use lib.ListN.{length};
-ghost use Rattle.definition.specs.Look.{oneIf, keptName};
+ghost use Rattle.definition.specs.Look.{keptName};
 ghost use Rattle.lines.specs.Parts.{part};
 ghost use Rattle.plain.specs.Plain.{parsedIn};
 ghost use Rattle.plan.specs.After.{moveOf};
-ghost use Rattle.plan.specs.Decided.{oneUnless};
 ghost use Rattle.apply.specs.Applied.{tablesOf};
 ghost use Rattle.whole.specs.Accepted.{Ready};
-ghost use Rattle.whole.specs.After.{openedBy, positionBy, InRange};
 ghost use Rattle.write.specs.Leaves.{rowsOf, Leaves};
 
 fn moves(kind: u32) -> u32
@@ -47,43 +45,6 @@ fn moves(kind: u32) -> u32
         2 => 1,
         _ => 2,
     }
-}
-
-fn one(k: u32) -> u32
-    ensures { λ r. ⌜ (r ≡ oneUnless k) × (r ≤ 1) ⌝ }
-{
-    if k == 0 {
-        return 0;
-    }
-    1
-}
-
-fn one_if(b: bool) -> u32
-    ensures { λ r. ⌜ (r ≡ oneIf b) × (r ≤ 1) ⌝ }
-{
-    if b {
-        return 1;
-    }
-    0
-}
-
-fn opened_after(kind: u32, n: u32) -> u32
-    requires { ⌜ n < 65536 ⌝ }
-    ensures { λ r. ⌜ r ≡ openedBy kind n ⌝ }
-{
-    if kind == 0 {
-        return n + 1;
-    }
-    if kind == 1 {
-        return n;
-    }
-    if kind == 2 {
-        return n;
-    }
-    if n == 0 {
-        return 0;
-    }
-    n - 1
 }
 
 fn own_name(src: &[u8], p: Plain) -> &[u8]
@@ -118,33 +79,6 @@ fn rows_of(p: Position, members: usize) -> Counts
         parameters: index(p.parameters),
         members: members,
         opened: index(p.opened),
-    }
-}
-
-fn position_after(p: Position, q: Plan, kind: u32, made: bool, charge: u32, w: Written) -> Position
-    requires { ⌜ InRange p q charge w ⌝ }
-    ensures { λ r. ⌜ r ≡ positionBy p q kind made charge w ⌝ }
-{
-    let states = w.states;
-    let members = w.members;
-    let used = w.used;
-    Position {
-        opened: opened_after(kind, p.opened),
-        states: states as u32,
-        transitions: p.transitions + one(q.transitions.number),
-        regions: p.regions + one(q.regions.one) + one(q.regions.two),
-        entries: p.entries + one(q.entries.kind),
-        invokes: p.invokes + one(q.invokes.added),
-        datums: p.datums + one(q.datums.added),
-        parameters: p.parameters + one(q.parameters.kind),
-        members: members as u32 + one(q.members.one.list) + one(q.members.two.list),
-        open_regions: q.pending.kept + one(q.pending.tag) + one(q.pending.by),
-        current: RegionId(q.counters.current),
-        ids: q.counters.ids,
-        docs: q.counters.docs,
-        names: p.names + one_if(made),
-        used: used as u32,
-        charge: p.charge + charge,
     }
 }
 

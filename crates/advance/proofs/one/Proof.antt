@@ -1,9 +1,9 @@
-use Rattle.write.proofs.Laws.{none, some}
+use Rattle.advance.proofs.Laws.{none, some}
 use native.Mathlib.Omega.{arith}
-use Rattle.write.proofs.one.Statement.{statement}
-use Rattle.write.proofs.one.Tie as tie
-use Rattle.write.proofs.one.Reads as reads
-use Rattle.write.proofs.one.Lts as lts
+use Rattle.advance.proofs.one.Statement.{statement}
+use Rattle.advance.proofs.one.Tie as tie
+use Rattle.advance.proofs.one.Reads as reads
+use Rattle.advance.proofs.one.Lts as lts
 
 returns : tie.Need-returns
 returns c = (none (c .before .args .k) (c .if1 .taken), omega arith)
