@@ -1,6 +1,7 @@
 //! A judge's chart as lent tables, row by row, and back from rows that were read.
 
 use crate::lent::{Lent, Position};
+use crate::numbers::ELEMENTS;
 use crate::rules::element;
 use rufsm::chart::*;
 use rufsm::dump_parse::{self, Answer};
@@ -326,8 +327,29 @@ impl Rows<'_> {
     }
 }
 
-/// The chart that the rows say, each read by kind and number through the boundary; `position` is the judge's, of which no row is readable.
-pub fn chart_of(lent: &Lent, position: &rufsm::chart::Position) -> Chart {
+/// What is open: of these tables no row is readable.
+pub fn open_in(lent: &Lent) -> rufsm::chart::Position {
+    let p = &lent.position;
+    let tag = |number: u32| number.checked_sub(1).map(|place| ELEMENTS[place as usize].to_string());
+    let open = lent.opened[..p.opened as usize].iter().zip(&lent.open_names).map(|(row, name)| OpenRow {
+        tag: tag(row[0]).unwrap_or_else(|| String::from_utf8(name[..row[3] as usize].to_vec()).expect("a name")),
+        state: row[1],
+        transition: row[2],
+    });
+    let regions = &lent.open_regions[..p.open_regions as usize];
+    rufsm::chart::Position {
+        open: open.collect(),
+        current: p.current,
+        open_regions: regions.iter().map(|row| row[0]).collect(),
+        open_tags: regions.iter().map(|row| tag(row[1]).expect("an element")).collect(),
+        ids: p.ids,
+        docs: p.docs,
+        names: p.names,
+    }
+}
+
+/// The chart that the rows say, each read by kind and number through the boundary, with what is open.
+pub fn chart_of(lent: &Lent) -> Chart {
     let numbers = |kind: u32| -> Vec<u32> {
         match kind {
             2 => lent.transitions[..lent.count(2)].iter().map(|row| row[0]).collect(),
@@ -361,6 +383,6 @@ pub fn chart_of(lent: &Lent, position: &rufsm::chart::Position) -> Chart {
         states: (1..).zip(&rows.rows[1]).map(|(number, row)| rows.state(number, row)).collect(),
         transitions: rows.rows[2].iter().map(|row| rows.transition(row)).collect(),
         regions: rows.rows[3].iter().map(region).collect(),
-        position: position.clone(),
+        position: open_in(lent),
     }
 }

@@ -1,9 +1,11 @@
 //! The proved functions as Rust sees them: functions callable from C, each behind a safe one.
 
 pub mod charted;
-pub mod described;
+pub mod compare;
+pub mod hostile;
 pub mod lent;
-pub mod looked;
+pub mod numbers;
+pub mod partners;
 pub mod plain;
 pub mod rules;
 

@@ -1,7 +1,7 @@
 //! Question 2 as one would write it by hand in Rust, for speed only: numbers searched by halves, names by a hash first. It is held to `rules` in the tests.
 
-use crate::described::ELEMENTS;
 use crate::lent::{Lent, CHARGE, LIMITS};
+use crate::numbers::ELEMENTS;
 use crate::rules::element;
 
 struct Held<'a> {

@@ -1,13 +1,13 @@
 //! Questions 1 and 2 in plain Rust, written from document 01 ('Chart rules and limits', 'The reader's questions') and docs/DECISIONS.md, 46 to 50 and
 //! 66 to 73, and not from the proved code: the other side of a comparison.
 
-use crate::described::ELEMENTS;
 use crate::lent::{Lent, CHARGE, LIMITS};
+use crate::numbers::{number_in, ELEMENTS};
 use std::collections::HashSet;
 
 /// An element's number; 0 where the name is unknown.
 pub fn element(name: &str) -> u32 {
-    ELEMENTS.iter().position(|known| *known == name).map_or(0, |place| place as u32 + 1)
+    number_in(&ELEMENTS, name)
 }
 
 /// The first no of questions 1 and 2, or 0.

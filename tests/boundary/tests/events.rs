@@ -1,14 +1,22 @@
-//! What `describe` tells of an event against the judge's own parser, through the C boundary.
+//! Questions 3 and 4, the form of an event and its keys, against the judge's own parser.
 
-use boundary::described::{self, described};
+use boundary::lent::Lent;
+use boundary::numbers::{ELEMENTS, KEYS};
 use boundary::recorded;
-use rufsm::event;
+use rufsm::event::{self, Fault};
 use rufsm::generate::{stream, Profile};
 
-/// Each event's description, field by field.
+/// Each event by itself, into the empty chart: the number is 3 or 4 exactly where the parser says so.
 fn check(stream: &[u8], what: &str) {
+    let mut lent = Lent::zeros();
     for raw in event::split(stream) {
-        assert_eq!(described(raw), described::expected(raw), "{what}: {:?}", String::from_utf8_lossy(raw));
+        let number = lent.event(raw);
+        let expected = match event::parse(raw) {
+            Err(Fault::Form(_)) => number == 3,
+            Err(Fault::Keys) => number == 4,
+            Ok(_) => number != 3 && number != 4,
+        };
+        assert!(expected, "{what}: {number} for {:?}", String::from_utf8_lossy(raw));
     }
 }
 
@@ -73,12 +81,12 @@ fn limits() {
 /// Every element and key by its number, and with an escaped byte in it.
 #[test]
 fn numbers() {
-    for name in described::ELEMENTS {
+    for name in ELEMENTS {
         for written in [name.to_string(), format!("{name}\\n"), format!("\\\\{name}"), name.to_uppercase()] {
             check(format!("event=empty\nname={written}\n").as_bytes(), &written);
         }
     }
-    for key in described::KEYS {
+    for key in KEYS {
         for written in [key.to_string(), format!("{key}\\n"), format!("\\\\{key}"), key.to_uppercase()] {
             check(format!("event=empty\nname=state\nkey={written}\nvalue=\n").as_bytes(), &written);
         }
@@ -107,7 +115,7 @@ fn long_events() {
     let pair = |i: usize| format!("key={}{i:02}\nvalue={}\n", backslashes(62), backslashes(1_024));
     let pairs: String = (0..16).map(pair).collect();
     let longest = format!("event=whole\nname=content\n{pairs}text={}\n", backslashes(4_096));
-    assert!(described(longest.as_bytes()).0.number == 0 && longest.len() > 43_000);
+    assert!(event::parse(longest.as_bytes()).is_ok() && longest.len() > 43_000);
     check(longest.as_bytes(), "the longest event");
     for n in [43_352, 49_000, 49_151, 49_152, 49_153, 65_535, 65_536, 140_000] {
         for start in ["event=", "event=open\nname=", "event=open\nname=x\nkey=", "event=open\nname=x\nkey=k\nvalue="] {

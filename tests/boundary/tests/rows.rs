@@ -26,7 +26,7 @@ fn charts_of_the_judge_are_in_order() {
 fn rows_are_the_judges() {
     for (name, chart) in recorded() {
         let lent = lend(&chart);
-        assert_eq!(chart_of(&lent, &chart.position), chart, "{name}");
+        assert_eq!(chart_of(&lent), chart, "{name}");
     }
 }
 
