@@ -244,11 +244,12 @@ module _ (p : Position) (a b c d f h i j k o y r : Table) (tx : List ℕ) (v : P
                 takes = ap (λ (z : Looked). z .charge) em;
               }
 
-  pub settles : (A : InForm x p v) (m : Looked) (em : m ≡ lookedIn (take 1 a) (take (p .states) b) (take (p .datums) i) (take (p .opened) o) (take (p .opened) y) (take (p .used) tx) p v)
+  pub settles : (m : Looked) (em : m ≡ lookedIn (take 1 a) (take (p .states) b) (take (p .datums) i) (take (p .opened) o) (take (p .opened) y) (take (p .used) tx) p v)
       (u : Seen) (eu : u ≡ seenBy (m .heard .tag) (m .heard .own) p (take 1 a) (take (p .states) b) (take (p .transitions) c) (take (p .entries) f) (take (p .invokes) h) (take (p .members) k) (take (p .opened) o) (take (p .«open_regions») r))
       (g : Decision) (eg : told g ≡ planBy (m .heard .kind) u (m .heard)) (t : ℕ) → t ≡ firstOf (m .no) (g .refusal) (within limits01 p (m .refs) (m .new) (m .made) (m .charge) (g .plan))
       → Settles x p v (record { number = t; plan = g .plan; made = m .made; charge = m .charge })
-  settles A m em u eu g eg t et = record { reply = λ B. reply B m em u eu g eg t et; ready = ready A m em u eu g eg t et }
+  unfolding ready
+  settles m em u eu g eg t et = record { reply = λ B. reply B m em u eu g eg t et; ready = λ B. ready B m em u eu g eg t et; same = λ B e. refl }
 
 -- ---- the first no
 

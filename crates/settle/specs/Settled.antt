@@ -35,4 +35,5 @@ replied s e r = elim (r .number) [ zero ↦ record { number = 0; store = afterwa
 
 pub record Settles (x : Lent) (p : Position) (v : Parsed) (r : Settled) : Type 0 where
   pub reply : (A : InForm x p v) → replyTo limits01 (storeOf x p) (some (A .event)) ≡ replied (storeOf x p) (A .event) r
-  pub ready : r .number ≡ 0 → Ready x p v (r .plan) (r .made) (r .charge)
+  pub ready : (A : InForm x p v) → r .number ≡ 0 → Ready x p v (r .plan) (r .made) (r .charge)
+  pub same : (A : InForm x p v) (z : r .number ≡ 0) → ready A z .accepted .event ≡ A .event
