@@ -1,10 +1,12 @@
 //! The chart: it owns its tables and is fed events.
 
+use crate::action::Entry;
 use crate::columns::{chart, region, state, transition};
 use crate::ffi::{self, Position};
+use crate::payload::Parameter;
 use crate::row::Row;
 use crate::tables::Tables;
-use crate::view::{Datum, Entry, Invoke, Parameter, Region, State, Transition};
+use crate::view::{Datum, Invoke, Region, State, Transition};
 use crate::{Refusal, RegionId, StateId, TransitionId, ROW_COLUMNS};
 use std::fmt;
 

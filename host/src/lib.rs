@@ -50,6 +50,9 @@
 #![deny(unsafe_code)]
 #![warn(missing_docs)]
 
+mod action;
+#[cfg(test)]
+mod agreement;
 mod chart;
 #[allow(missing_docs)]
 pub mod columns;
@@ -57,6 +60,7 @@ pub mod columns;
 mod ffi;
 mod id;
 pub mod listing;
+mod payload;
 pub mod picture;
 mod refusal;
 mod row;
@@ -64,14 +68,13 @@ pub mod stream;
 mod tables;
 mod view;
 
+pub use action::{Action, Entry, SendParameters};
 pub use chart::{Binding, Chart, Kind, ReadRow};
 pub use ffi::Position;
 pub use id::{RegionId, StateId, TransitionId};
+pub use payload::{Content, Owner, Parameter, Payload};
 pub use refusal::Refusal;
-pub use view::{
-    Action, Content, Datum, Entry, HistoryType, Invoke, Owner, Parameter, Payload, Region, SendParameters, State,
-    Transition, TransitionType,
-};
+pub use view::{Datum, HistoryType, Invoke, Region, State, Transition, TransitionType};
 
 /// How many numbers a row has as it is read, and how many bytes.
 pub const ROW_COLUMNS: usize = 50;

@@ -195,7 +195,8 @@ impl<'a> Picture<'a> {
             attributes.push(format!("lhead=cluster_{}", target.id()));
         }
         attributes.extend(source.filter(|source| has_children(*source) && !to_inside).map(|source| tail(source)));
-        self.line(1, &format!("{from} -> s{} [{}];", target.id(), attributes.join(", ")));
+        let attributes = if attributes.is_empty() { String::new() } else { format!(" [{}]", attributes.join(", ")) };
+        self.line(1, &format!("{from} -> s{}{attributes};", target.id()));
     }
 
     /// Whether a state is drawn inside another, or is that other.

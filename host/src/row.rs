@@ -66,3 +66,30 @@ pub(crate) fn listed_regions(chart: &Chart, list: u32, owner: u32) -> impl Itera
 pub(crate) fn listed_words(chart: &Chart, list: u32, owner: u32) -> impl Iterator<Item = &str> {
     listed(chart, list, owner).map(|row| row.given(member::WORD))
 }
+
+/// Texts of a row, each under its attribute's name.
+macro_rules! texts {
+    ($($(#[$doc:meta])* $name:ident: $column:expr;)*) => {
+        $(
+            $(#[$doc])*
+            pub fn $name(&self) -> Option<&'a str> {
+                self.row.text($column)
+            }
+        )*
+    };
+}
+
+/// A view shows itself by its number, and by its name where it has one.
+macro_rules! shown {
+    ($($name:ident: $($field:ident),+;)*) => {
+        $(
+            impl std::fmt::Debug for $name<'_> {
+                fn fmt(&self, f: &mut std::fmt::Formatter<'_>) -> std::fmt::Result {
+                    f.debug_struct(stringify!($name))$(.field(stringify!($field), &self.$field()))+.finish_non_exhaustive()
+                }
+            }
+        )*
+    };
+}
+
+pub(crate) use {shown, texts};
