@@ -68,17 +68,34 @@ fn caption(state: State, name: &str) -> String {
     std::iter::once(label(name)).chain(lines).collect::<Vec<String>>().join("\\n")
 }
 
-/// How a transition's arrow looks. A space keeps the words off the line.
-fn attributes(transition: Transition, from_point: bool) -> Vec<String> {
-    let internal = transition.transition_type() == TransitionType::Internal && !from_point;
-    let words = words(transition);
-    let label = (!words.is_empty()).then(|| format!("label=\" {words}\""));
-    label.into_iter().chain(internal.then(|| "style=dashed".to_string())).collect()
+/// Where an arrow begins: a node, the state that it lies in, and whether the arrow is seen to begin at that state's border.
+struct Tail<'a> {
+    node: String,
+    inside: Option<State<'a>>,
+    at_border: bool,
 }
 
-/// The arrow begins at the cluster's border.
-fn tail(source: State) -> String {
-    format!("ltail=cluster_{}", source.id())
+impl<'a> Tail<'a> {
+    /// An initial transition begins at its point. A state without children has no point, and none but itself to enter.
+    fn of(transition: Transition<'a>) -> Tail<'a> {
+        let source = transition.source();
+        let initial = source.initial().is_some_and(|initial| initial.id() == transition.id());
+        let at_border = has_children(source) && !initial;
+        let letter = if has_children(source) && initial { 'i' } else { 's' };
+        Tail { node: format!("{letter}{}", source.id()), inside: Some(source), at_border }
+    }
+
+    fn border(&self) -> Option<String> {
+        self.inside.filter(|_| self.at_border).map(|source| format!("ltail=cluster_{}", source.id()))
+    }
+}
+
+/// How a transition's arrow looks. A space keeps the words off the line. An arrow from a point is never dashed: it leaves nothing.
+fn attributes(transition: Transition, tail: &Tail) -> Vec<String> {
+    let words = words(transition);
+    let label = (!words.is_empty()).then(|| format!("label=\" {words}\""));
+    let internal = transition.transition_type() == TransitionType::Internal && !tail.node.starts_with('i');
+    label.into_iter().chain(internal.then(|| "style=dashed".to_string())).collect()
 }
 
 fn has_children(state: State) -> bool {
@@ -152,51 +169,42 @@ impl<'a> Picture<'a> {
         }
     }
 
-    /// All transitions, initial ones from their point. A state without children has no point, and its initial transition
-    /// leads from the state.
+    /// All transitions.
     fn arrows(&mut self) {
         for transition in self.chart.transitions() {
-            let source = transition.source();
-            let initial = source.initial().is_some_and(|initial| initial.id() == transition.id());
-            let from_point = initial && has_children(source);
-            let from = if from_point { format!("i{}", source.id()) } else { format!("s{}", source.id()) };
-            self.transition(transition, &from, from_point);
-        }
-    }
-
-    fn transition(&mut self, transition: Transition<'a>, from: &str, from_point: bool) {
-        let targets: Vec<State> = transition.targets().collect();
-        let source = Some(transition.source()).filter(|_| !from_point);
-        match targets[..] {
-            [] => (),
-            [target] => self.arrow(from, source, target, attributes(transition, from_point)),
-            _ => self.fork(transition, from, source, &targets),
+            let targets: Vec<State> = transition.targets().collect();
+            let tail = Tail::of(transition);
+            match targets[..] {
+                [] => (),
+                [target] => self.arrow(&tail, target, attributes(transition, &tail)),
+                _ => self.fork(transition, &tail, &targets),
+            }
         }
     }
 
     /// Several targets are entered together: one arrow to a small point, and one from there to each.
-    fn fork(&mut self, transition: Transition<'a>, from: &str, source: Option<State<'a>>, targets: &[State<'a>]) {
-        let point = format!("t{}", transition.id());
-        self.line(1, &format!("{point} [shape=point, width=0.05];"));
-        let mut attributes = attributes(transition, source.is_none());
+    fn fork(&mut self, transition: Transition<'a>, tail: &Tail<'a>, targets: &[State<'a>]) {
+        let point = Tail { node: format!("t{}", transition.id()), inside: None, at_border: false };
+        self.line(1, &format!("{} [shape=point, width=0.05];", point.node));
+        let mut attributes = attributes(transition, tail);
         attributes.push("arrowhead=none".to_string());
-        attributes.extend(source.filter(|source| has_children(*source)).map(|source| tail(source)));
-        self.line(1, &format!("{from} -> {point} [{}];", attributes.join(", ")));
+        attributes.extend(tail.border());
+        self.line(1, &format!("{} -> {} [{}];", tail.node, point.node, attributes.join(", ")));
         for target in targets {
-            self.arrow(&point, None, *target, Vec::new());
+            self.arrow(&point, *target, Vec::new());
         }
     }
 
     /// An arrow begins and ends at a cluster's border, unless its other end is inside.
-    fn arrow(&mut self, from: &str, source: Option<State<'a>>, target: State<'a>, mut attributes: Vec<String>) {
-        let from_inside = source.is_some_and(|source| self.is_inside(source.id(), target.id()));
-        let to_inside = source.is_some_and(|source| self.is_inside(target.id(), source.id()));
+    fn arrow(&mut self, tail: &Tail<'a>, target: State<'a>, mut attributes: Vec<String>) {
+        let from_inside = tail.inside.is_some_and(|source| self.is_inside(source.id(), target.id()));
+        let to_inside = tail.inside.is_some_and(|source| self.is_inside(target.id(), source.id()));
         if has_children(target) && !from_inside {
             attributes.push(format!("lhead=cluster_{}", target.id()));
         }
-        attributes.extend(source.filter(|source| has_children(*source) && !to_inside).map(|source| tail(source)));
+        attributes.extend(tail.border().filter(|_| !to_inside));
         let attributes = if attributes.is_empty() { String::new() } else { format!(" [{}]", attributes.join(", ")) };
-        self.line(1, &format!("{from} -> s{}{attributes};", target.id()));
+        self.line(1, &format!("{} -> s{}{attributes};", tail.node, target.id()));
     }
 
     /// Whether a state is drawn inside another, or is that other.
