@@ -3,6 +3,7 @@
 use host::{listing, Action, Binding, Chart, HistoryType, Payload, Region, SendParameters, State, TransitionType};
 use rufsm::chart as judge;
 use rufsm::dump_parse::{self, Answer};
+use rufsm::generate::{self, Profile};
 use rufsm::{event, frames, refusal};
 use std::path::{Path, PathBuf};
 
@@ -233,6 +234,21 @@ fn events_one_by_one() {
         assert_eq!(streamed.map(|refusal| (refusal.event().expect("a place"), refusal.number())), fed, "{name}");
         assert!(whole == single, "{name}");
         assert_eq!(host::stream::events(&stream).collect::<Vec<_>>(), event::split(&stream), "{name}");
+    }
+}
+
+/// Streams that the judge reads now, where it is at hand: more of them, and longer ones.
+#[test]
+fn random_streams() {
+    if !rufsm::judge::is_there("random_streams") {
+        return;
+    }
+    for (profile, count) in [(Profile::Small, 400), (Profile::Middle, 300), (Profile::Ordinary, 60)] {
+        for index in 0..count {
+            let stream = generate::stream(11, index, profile);
+            let dump = rufsm::answer::dump(&rufsm::judge::verdict(&stream));
+            hold(&format!("{profile:?} {index}"), &stream, dump_parse::parse(&dump).expect("a dump"));
+        }
     }
 }
 
