@@ -349,18 +349,18 @@ struct chart {
 
 /* ---- the library's functions: each slice is a pointer and its number of rows (of bytes for text, event and row) */
 
-#define CHART_SLICES(access)                                         \
-    access uint32_t(*chart)[CHART_MIDDLE], size_t chart_rows,        \
-    access uint32_t(*states)[CHART_MIDDLE], size_t state_rows,       \
-    access uint32_t(*transitions)[CHART_NARROW], size_t transition_rows, \
-    access uint32_t(*regions)[CHART_NARROW], size_t region_rows,     \
-    access uint32_t(*entries)[CHART_WIDE], size_t entry_rows,        \
-    access uint32_t(*invokes)[CHART_MIDDLE], size_t invoke_rows,     \
-    access uint32_t(*data)[CHART_NARROW], size_t data_rows,          \
-    access uint32_t(*parameters)[CHART_NARROW], size_t parameter_rows, \
-    access uint32_t(*members)[CHART_NARROW], size_t member_rows,     \
-    access uint32_t(*opened)[CHART_NARROW], size_t opened_rows,      \
-    access uint8_t(*open_names)[CHART_NAME_BYTES], size_t open_name_rows, \
+#define CHART_SLICES(access)                                               \
+    access uint32_t(*chart)[CHART_MIDDLE], size_t chart_rows,              \
+    access uint32_t(*states)[CHART_MIDDLE], size_t state_rows,             \
+    access uint32_t(*transitions)[CHART_NARROW], size_t transition_rows,   \
+    access uint32_t(*regions)[CHART_NARROW], size_t region_rows,           \
+    access uint32_t(*entries)[CHART_WIDE], size_t entry_rows,              \
+    access uint32_t(*invokes)[CHART_MIDDLE], size_t invoke_rows,           \
+    access uint32_t(*data)[CHART_NARROW], size_t data_rows,                \
+    access uint32_t(*parameters)[CHART_NARROW], size_t parameter_rows,     \
+    access uint32_t(*members)[CHART_NARROW], size_t member_rows,           \
+    access uint32_t(*opened)[CHART_NARROW], size_t opened_rows,            \
+    access uint8_t(*open_names)[CHART_NAME_BYTES], size_t open_name_rows,  \
     access uint32_t(*open_regions)[CHART_NARROW], size_t open_region_rows, \
     access uint8_t *text, size_t text_bytes
 
@@ -378,10 +378,10 @@ uint32_t chart_read_row(CHART_SLICES(const), struct chart_position position, uin
 /* ---- a whole chart */
 
 /* The tables of a struct chart as slices. */
-#define CHART_LENT(c)                                                                                             \
-    (c)->chart, CHART_CHARTS, (c)->states, CHART_STATES, (c)->transitions, CHART_TRANSITIONS, (c)->regions,       \
-    CHART_REGIONS, (c)->entries, CHART_ENTRIES, (c)->invokes, CHART_INVOKES, (c)->data, CHART_DATA,               \
-    (c)->parameters, CHART_PARAMETERS, (c)->members, CHART_MEMBERS, (c)->opened, CHART_OPENED, (c)->open_names,   \
+#define CHART_LENT(c)                                                                                           \
+    (c)->chart, CHART_CHARTS, (c)->states, CHART_STATES, (c)->transitions, CHART_TRANSITIONS, (c)->regions,     \
+    CHART_REGIONS, (c)->entries, CHART_ENTRIES, (c)->invokes, CHART_INVOKES, (c)->data, CHART_DATA,             \
+    (c)->parameters, CHART_PARAMETERS, (c)->members, CHART_MEMBERS, (c)->opened, CHART_OPENED, (c)->open_names, \
     CHART_OPENED, (c)->open_regions, CHART_OPEN_REGIONS, (c)->text, CHART_CHARGE
 
 /* One event's lines into the chart: its number. Where it is not 0 the chart is as it was. */

@@ -9,26 +9,41 @@
 use crate::tables::Tables;
 use crate::ROW_BYTES;
 
-/// The reading position: how many rows of each table are in use, how many elements and regions are open, the current region,
-/// what was drawn from each counter, how much of the text is in use, and the text charge.
+/// The reading position: it goes to the reader by value and comes back.
 #[repr(C)]
 #[derive(Debug, Clone, Copy, Default, PartialEq, Eq)]
 pub struct Position {
+    /// Open elements.
     pub opened: u32,
+    /// States in use.
     pub states: u32,
+    /// Transitions in use.
     pub transitions: u32,
+    /// Regions in use.
     pub regions: u32,
+    /// Entries in use.
     pub entries: u32,
+    /// Invokes in use.
     pub invokes: u32,
+    /// Data in use.
     pub data: u32,
+    /// Parameters in use, with those that have left the chart.
     pub parameters: u32,
+    /// Members of lists in use.
     pub members: u32,
+    /// Regions that go on when the current one is closed.
     pub open_regions: u32,
+    /// The region that takes the next entry, or 0.
     pub current: u32,
+    /// Numbers drawn for transitions and regions.
     pub ids: u32,
+    /// Doc ids drawn.
     pub docs: u32,
+    /// Names generated.
     pub names: u32,
+    /// Bytes of text in use.
     pub used: u32,
+    /// The text charge.
     pub charge: u32,
 }
 

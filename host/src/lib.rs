@@ -56,7 +56,6 @@ mod agreement;
 mod chart;
 #[allow(missing_docs)]
 pub mod columns;
-#[allow(missing_docs)]
 mod ffi;
 mod id;
 pub mod listing;

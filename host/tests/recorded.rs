@@ -4,6 +4,7 @@ use host::{listing, Action, Binding, Chart, HistoryType, Payload, Region, SendPa
 use rufsm::chart as judge;
 use rufsm::dump_parse::{self, Answer};
 use rufsm::generate::{self, Profile};
+use rufsm::rng::Rng;
 use rufsm::{event, frames, refusal};
 use std::path::{Path, PathBuf};
 
@@ -224,16 +225,33 @@ fn listings_are_the_recorded_ones() {
 }
 
 /// One event each gives the same chart as the stream, and the same refusal.
+fn agree(name: &str, stream: &[u8]) {
+    let (mut whole, mut single) = (Chart::new(), Chart::new());
+    let streamed = whole.feed_stream(stream).err();
+    let mut events = (1..).zip(host::stream::events(stream));
+    let fed = events.find_map(|(place, raw)| single.feed(raw).err().map(|refusal| (place, refusal.number())));
+    assert_eq!(streamed.map(|refusal| (refusal.event().expect("a place"), refusal.number())), fed, "{name}");
+    assert!(whole == single, "{name}");
+    assert_eq!(host::stream::events(stream).collect::<Vec<_>>(), event::split(stream), "{name}");
+}
+
 #[test]
 fn events_one_by_one() {
     for (name, stream) in recorded("streams.txt") {
-        let (mut whole, mut single) = (Chart::new(), Chart::new());
-        let streamed = whole.feed_stream(&stream).err();
-        let mut events = (1..).zip(host::stream::events(&stream));
-        let fed = events.find_map(|(place, raw)| single.feed(raw).err().map(|refusal| (place, refusal.number())));
-        assert_eq!(streamed.map(|refusal| (refusal.event().expect("a place"), refusal.number())), fed, "{name}");
-        assert!(whole == single, "{name}");
-        assert_eq!(host::stream::events(&stream).collect::<Vec<_>>(), event::split(&stream), "{name}");
+        agree(&name, &stream);
+    }
+}
+
+/// Whatever bytes come, and wherever a stream is cut.
+#[test]
+fn changed_bytes() {
+    let mut rng = Rng::of(5, 0);
+    for (name, mut stream) in recorded("streams.txt").into_iter().filter(|(_, stream)| !stream.is_empty()) {
+        let place = rng.below(stream.len());
+        stream[place] = [b'\n', b'\\', b'=', 0, 0xff][rng.below(5)];
+        agree(&name, &stream);
+        agree(&name, &stream[..place]);
+        agree(&name, &stream[place..]);
     }
 }
 

@@ -254,9 +254,9 @@ static const size_t limits[13] = {
     CHART_PARAMETERS, CHART_MEMBERS, CHART_OPENED,  CHART_OPENED,  CHART_OPEN_REGIONS, CHART_CHARGE,
 };
 
-#define COUNTED(c, n)                                                                                                \
-    (c)->chart, (n)[0], (c)->states, (n)[1], (c)->transitions, (n)[2], (c)->regions, (n)[3], (c)->entries, (n)[4],   \
-    (c)->invokes, (n)[5], (c)->data, (n)[6], (c)->parameters, (n)[7], (c)->members, (n)[8], (c)->opened, (n)[9],     \
+#define COUNTED(c, n)                                                                                              \
+    (c)->chart, (n)[0], (c)->states, (n)[1], (c)->transitions, (n)[2], (c)->regions, (n)[3], (c)->entries, (n)[4], \
+    (c)->invokes, (n)[5], (c)->data, (n)[6], (c)->parameters, (n)[7], (c)->members, (n)[8], (c)->opened, (n)[9],   \
     (c)->open_names, (n)[10], (c)->open_regions, (n)[11], (c)->text, (n)[12]
 
 static void lend(const size_t *counts, uint32_t number) {
@@ -347,10 +347,10 @@ static void short_buffer(void) {
 
 /* ---- rows with actions, texts and lists */
 
-#define ACTIONS                                                                                                       \
+#define ACTIONS                                                                                                              \
     SCXML OPEN_A "event=open\nname=transition\nkey=event\nvalue=lamp.* door\nkey=cond\nvalue=x < 3\nkey=target\nvalue=b a\n" \
-    "event=empty\nname=send\nkey=event\nvalue=go\nkey=namelist\nvalue=p q\n"                                          \
-    "event=open\nname=if\nkey=cond\nvalue=c\nevent=whole\nname=script\ntext= one\\ntwo \nevent=end\nname=if\n"        \
+    "event=empty\nname=send\nkey=event\nvalue=go\nkey=namelist\nvalue=p q\n"                                                 \
+    "event=open\nname=if\nkey=cond\nvalue=c\nevent=whole\nname=script\ntext= one\\ntwo \nevent=end\nname=if\n"               \
     "event=end\nname=transition\n"
 
 static void transition_with_actions(void) {

@@ -41,6 +41,12 @@ fn tell(text: &str) {
     let _ = std::io::stderr().write_all(text.as_bytes());
 }
 
+/// What went wrong, and the exit status for it.
+fn complain(error: &str) -> u8 {
+    tell(&format!("chart: {error}\n"));
+    FAILED
+}
+
 fn read(file: &OsStr) -> Result<Vec<u8>, String> {
     let mut bytes = Vec::new();
     let read = match file.to_str() {
@@ -78,30 +84,35 @@ fn draw(file: &OsStr) -> Result<u8, String> {
 }
 
 /// One file's line, and its exit status.
-fn check_one(file: &OsStr) -> Result<u8, String> {
+fn verdict(file: &OsStr) -> Result<(String, u8), String> {
     let bytes = read(file)?;
-    match Chart::of_stream(&bytes) {
-        Ok(_) => print(&format!("{}: accepted\n", file.display())).map(|()| ACCEPTED),
-        Err(refusal) => print(&format!("{}: {}\n", file.display(), sentence(&bytes, &refusal))).map(|()| REFUSED),
-    }
+    let (words, status) = match Chart::of_stream(&bytes) {
+        Ok(_) => ("accepted".to_string(), ACCEPTED),
+        Err(refusal) => (sentence(&bytes, &refusal), REFUSED),
+    };
+    Ok((format!("{}: {words}\n", file.display()), status))
+}
+
+/// The verdict, while a line on a terminal says how far we are; it is gone before the verdict is written.
+fn awaited(file: &OsStr, progress: Option<String>) -> Result<(String, u8), String> {
+    let Some(progress) = progress else { return verdict(file) };
+    tell(&progress);
+    let verdict = verdict(file);
+    tell("\r\x1b[K");
+    verdict
 }
 
 /// All files, also behind one that cannot be read; the worst status counts.
 fn check(files: &[OsString]) -> Result<u8, String> {
-    let progress = files.len() >= MANY_FILES && std::io::stderr().is_terminal();
+    let many = files.len() >= MANY_FILES && std::io::stderr().is_terminal();
     let mut worst = ACCEPTED;
     for (place, file) in files.iter().enumerate() {
-        if progress {
-            tell(&format!("\r{} of {}\x1b[K\r", place + 1, files.len()));
-        }
-        let status = check_one(file).unwrap_or_else(|error| {
-            tell(&format!("chart: {error}\n"));
-            FAILED
-        });
+        let progress = many.then(|| format!("{} of {}", place + 1, files.len()));
+        let status = match awaited(file, progress) {
+            Ok((line, status)) => print(&line).map(|()| status)?,
+            Err(error) => complain(&error),
+        };
         worst = worst.max(status);
-    }
-    if progress {
-        tell("\r\x1b[K");
     }
     Ok(worst)
 }
@@ -121,9 +132,5 @@ fn run(words: &[OsString]) -> Result<u8, String> {
 
 fn main() -> ExitCode {
     let words: Vec<OsString> = std::env::args_os().skip(1).collect();
-    let status = run(&words).unwrap_or_else(|error| {
-        tell(&format!("chart: {error}\n"));
-        FAILED
-    });
-    ExitCode::from(status)
+    ExitCode::from(run(&words).unwrap_or_else(|error| complain(&error)))
 }
