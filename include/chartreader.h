@@ -391,8 +391,8 @@ static inline uint32_t chart_feed(struct chart *c, const uint8_t *event, size_t 
     return answer.number;
 }
 
-/* A stream of events into the chart: the first number that is not 0, or 0. The refused event's place from 1 comes by `event`,
- * which may be NULL; the events before it are in the chart. */
+/* A stream of events into the chart: the first number that is not 0, or 0. The refused event's place from 1 comes by
+ * `event`, which may be NULL; the events before it are in the chart. */
 static inline uint32_t chart_feed_stream(struct chart *c, const uint8_t *events, size_t bytes, size_t *event) {
     struct chart_streamed answer = chart_stream(CHART_LENT(c), c->position, events, bytes);
     c->position = answer.position;

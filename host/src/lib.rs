@@ -1,7 +1,7 @@
 //! Charts from event lines: a safe crate over the proved reader's C functions.
 //!
-//! A [`Chart`] owns its tables. It is fed a chart's elements as *event lines*, one event or a whole stream at a time; each event is
-//! accepted, or refused with the number of the first question that it fails, and then nothing has changed.
+//! A [`Chart`] owns its tables. It is fed a chart's elements as *event lines*, one event or a whole stream at a time; each
+//! event is accepted, or refused with the number of the first question that it fails, and then nothing has changed.
 //!
 //! ```
 //! use host::Chart;
@@ -36,8 +36,8 @@
 //!
 //! # Numbers
 //!
-//! States, transitions and regions have numbers of three types, [`StateId`], [`TransitionId`] and [`RegionId`], and one given
-//! for another does not compile:
+//! States, transitions and regions have numbers of three types, [`StateId`], [`TransitionId`] and [`RegionId`], and one
+//! given for another does not compile:
 //!
 //! ```compile_fail
 //! let chart = host::Chart::new();

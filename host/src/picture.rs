@@ -90,7 +90,8 @@ impl<'a> Tail<'a> {
     }
 }
 
-/// How a transition's arrow looks. A space keeps the words off the line. An arrow from a point is never dashed: it leaves nothing.
+/// How a transition's arrow looks. A space keeps the words off the line. An arrow from a point is never dashed: it leaves
+/// nothing.
 fn attributes(transition: Transition, tail: &Tail) -> Vec<String> {
     let words = words(transition);
     let label = (!words.is_empty()).then(|| format!("label=\" {words}\""));

@@ -68,3 +68,53 @@ impl Tables {
         [&self.text[..p.used as usize], self.open_names[..p.opened as usize].as_flattened()]
     }
 }
+
+#[cfg(test)]
+mod tests {
+    use super::*;
+
+    type Cell = fn(&mut Tables, usize) -> &mut u32;
+
+    const CELLS: [Cell; 10] = [
+        |tables, row| &mut tables.states[row][3],
+        |tables, row| &mut tables.transitions[row][3],
+        |tables, row| &mut tables.regions[row][3],
+        |tables, row| &mut tables.entries[row][3],
+        |tables, row| &mut tables.invokes[row][3],
+        |tables, row| &mut tables.data[row][3],
+        |tables, row| &mut tables.parameters[row][3],
+        |tables, row| &mut tables.members[row][3],
+        |tables, row| &mut tables.opened[row][3],
+        |tables, row| &mut tables.open_regions[row][3],
+    ];
+
+    /// A position with one row of each table in use.
+    fn one_row() -> Position {
+        Position {
+            opened: 1,
+            states: 1,
+            transitions: 1,
+            regions: 1,
+            entries: 1,
+            invokes: 1,
+            data: 1,
+            parameters: 1,
+            members: 1,
+            open_regions: 1,
+            ..Position::default()
+        }
+    }
+
+    /// A row in use counts, the row behind it does not.
+    #[test]
+    fn rows_in_use() {
+        let (zeros, position) = (Tables::new(), one_row());
+        for cell in CELLS {
+            for (row, same) in [(0, false), (1, true)] {
+                let mut changed = zeros.clone();
+                *cell(&mut changed, row) = 7;
+                assert_eq!(changed.in_use(&position) == zeros.in_use(&position), same);
+            }
+        }
+    }
+}
