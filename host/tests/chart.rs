@@ -126,6 +126,14 @@ fn sizes_and_shows() {
     assert_eq!(format!("{:?}", chart.root().expect("an scxml")), "State { id: StateId(1), name: \"__id1\", .. }");
 }
 
+/// Tables are made and copied without a large frame.
+#[test]
+fn small_stack() {
+    let thread = std::thread::Builder::new().stack_size(96 * 1_024);
+    let same = thread.spawn(|| Chart::new().clone() == Chart::new()).expect("a thread");
+    assert!(same.join().expect("no overflow"));
+}
+
 /// A chart can go to another thread.
 #[test]
 fn threads() {
