@@ -4,8 +4,11 @@ use crate::charted::chart_of;
 use crate::lent::Lent;
 use rufsm::chart::Chart;
 use rufsm::dump_parse::Answer;
+use rufsm::event::Kind;
 use rufsm::judge::Verdict;
 use rufsm::{dump, event, refusal};
+
+const OPENED: i32 = 32;
 
 /// What the reader must answer. event: the refused event's place, 0 where all are accepted.
 #[derive(Debug, Clone, PartialEq, Eq)]
@@ -31,13 +34,34 @@ fn panicked(stream: &[u8], place: usize, reason: &str) -> Expected {
     refused(number, place)
 }
 
+/// The first event that would open a 33rd element, from 1. The judge has no such limit.
+fn too_deep(stream: &[u8]) -> Option<usize> {
+    let mut depth = 0;
+    for (place, raw) in event::split(stream).into_iter().enumerate() {
+        let kind = event::parse(raw).ok()?.kind;
+        match kind {
+            Kind::End => depth -= 1,
+            _ if depth == OPENED => return Some(place + 1),
+            Kind::Open => depth += 1,
+            _ => {}
+        }
+    }
+    None
+}
+
+/// What the judge says, and 7 where it goes on beyond 32 open elements: questions 3 to 6 come before, all others after.
 pub fn by_verdict(stream: &[u8], verdict: &Verdict) -> Expected {
-    match verdict {
+    let said = match verdict {
         Verdict::Accepted(chart) => accepted(chart),
         Verdict::Form { event, .. } => refused(3, *event),
         Verdict::Keys { event } => refused(4, *event),
         Verdict::LeftOut { event, .. } => refused(6, *event),
         Verdict::Refused { event, reason } => panicked(stream, *event, reason),
+    };
+    let before = |place: usize| said.number == 0 || place < said.event || (place == said.event && said.number > 7);
+    match too_deep(stream) {
+        Some(place) if before(place) => refused(7, place),
+        _ => said,
     }
 }
 

@@ -88,14 +88,15 @@ impl Attack {
     }
 
     /// One event: 0, or nothing has changed.
-    fn feed(&mut self, raw: &[u8]) {
+    fn feed(&mut self, raw: &[u8]) -> u32 {
         let number = self.lent.event(raw);
         self.counts.events[number as usize] += 1;
         if number == 0 {
             self.copy.clone_from(&self.lent);
-            return;
+            return 0;
         }
         assert!(self.lent.same(&self.copy), "{number} for {:?} left something changed", String::from_utf8_lossy(raw));
+        number
     }
 
     /// A number somewhere in the tables or in the position becomes another.
@@ -149,7 +150,11 @@ impl Attack {
             let raws = event::split(&stream);
             for (place, raw) in raws.iter().enumerate() {
                 let hurt = self.hurt(raw, raws[(place + 1) % raws.len()]);
-                self.feed(&hurt);
+                // Where the hurt one is refused, the event itself: so the chart grows.
+                if self.feed(&hurt) != 0 && hurt != *raw {
+                    self.feed(raw);
+                    fed += 1;
+                }
                 if self.rng.one_in(16) {
                     self.misuse(raw);
                 }
@@ -158,8 +163,8 @@ impl Attack {
                 }
                 fed += 1;
             }
-            // A full chart refuses most: begin again now and then.
-            if self.rng.one_in(4) {
+            // A second stream on the same chart is refused for the most part.
+            if !self.rng.one_in(8) {
                 self.lent = Lent::zeros();
                 self.copy = Lent::zeros();
             }
