@@ -351,8 +351,7 @@ fn put_row(row: [u32; WIDTH], out: &mut [u8])
 }
 
 /// The same for C: the row as 200 bytes, lowest byte first, zeros where it is refused; 1, and nothing written, where the buffer is too short for them.
-#[no_mangle]
-pub extern "C" fn chart_read_row(
+pub fn read_row_bytes(
     chart: &[[u32; 24]],
     states: &[[u32; 24]],
     transitions: &[[u32; 8]],
