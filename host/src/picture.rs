@@ -76,7 +76,7 @@ struct Tail<'a> {
 }
 
 impl<'a> Tail<'a> {
-    /// An initial transition begins at its point. A state without children has no point, and none but itself to enter.
+    /// An initial transition begins at its point; a state without children has none, and there it begins at the state.
     fn of(transition: Transition<'a>) -> Tail<'a> {
         let source = transition.source();
         let initial = source.initial().is_some_and(|initial| initial.id() == transition.id());
