@@ -4,7 +4,7 @@
  * A chart says what a lamp, a fan or a dowser does on which event. The reader is fed a chart's elements one at a time, as
  * event lines, and builds tables of states, transitions and regions (blocks of actions) in memory that you lend. It
  * answers each event with a number: 0, or the first question that the event fails, and then nothing has changed. It keeps
- * nothing between two calls, allocates nothing, and calls nothing but memcpy and memset.
+ * nothing between two calls, allocates nothing, calls nothing but memcpy and memset, and takes some 30 KB of stack.
  *
  * All that it needs is one struct. Zeros are the empty chart, so a static one is ready for the first event:
  *

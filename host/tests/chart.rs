@@ -126,11 +126,11 @@ fn sizes_and_shows() {
     assert_eq!(format!("{:?}", chart.root().expect("an scxml")), "State { id: StateId(1), name: \"__id1\", .. }");
 }
 
-/// Tables are made and copied without a large frame.
+/// Tables are made, copied and fed without a large frame.
 #[test]
 fn small_stack() {
     let thread = std::thread::Builder::new().stack_size(96 * 1_024);
-    let same = thread.spawn(|| Chart::new().clone() == Chart::new()).expect("a thread");
+    let same = thread.spawn(|| Chart::new().clone() == Chart::new() && begun().clone() == begun()).expect("a thread");
     assert!(same.join().expect("no overflow"));
 }
 

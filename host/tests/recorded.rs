@@ -175,9 +175,8 @@ fn whole(chart: &Chart, position: judge::Position) -> judge::Chart {
     }
 }
 
-/// The number for a recorded answer that is no chart.
-fn number(stream: &[u8], word: &str, event: usize, reason: &str) -> u32 {
-    let raw = event::split(stream)[event - 1];
+/// The number for an answer of the judge that is no chart.
+fn number(raw: &[u8], word: &str, reason: &str) -> u32 {
     match word {
         "form" => 3,
         "keys" => 4,
@@ -186,21 +185,48 @@ fn number(stream: &[u8], word: &str, event: usize, reason: &str) -> u32 {
     }
 }
 
+/// The place of the first event that begins where 32 elements are open.
+fn too_deep(stream: &[u8]) -> Option<usize> {
+    let mut open = 0;
+    for (place, raw) in (1..).zip(event::split(stream)) {
+        match raw {
+            _ if raw.starts_with(b"event=end\n") => open -= 1,
+            _ if open == Chart::OPENED as i32 => return Some(place),
+            _ => open += i32::from(raw.starts_with(b"event=open\n")),
+        }
+    }
+    None
+}
+
+/// What the reader must make of a stream: the judge's chart, or the number and the event's place. The Rust has no limit of open
+/// elements, so question 7 is put here; 3, 4 and 6 come before it.
+fn expected(stream: &[u8], answer: Answer) -> Result<judge::Chart, (u32, usize)> {
+    let judged = match answer {
+        Answer::Accepted(chart) => Ok(*chart),
+        Answer::Stopped { word, event, reason } => {
+            Err((number(event::split(stream)[event - 1], &word, reason.as_deref().unwrap_or_default()), event))
+        }
+    };
+    let Some(deep) = too_deep(stream) else { return judged };
+    match judged {
+        Err((number, place)) if place < deep || (place == deep && number < 7 && number != 5) => Err((number, place)),
+        _ => Err((7, deep)),
+    }
+}
+
 fn hold(name: &str, stream: &[u8], answer: Answer) {
-    let chart = Chart::of_stream(stream);
-    match answer {
-        Answer::Accepted(wanted) => {
-            let chart = chart.unwrap_or_else(|refusal| panic!("{name}: {refusal}"));
-            assert_eq!(whole(&chart, wanted.position.clone()), *wanted, "{name}");
-            let (p, open) = (chart.position(), &wanted.position);
+    match (Chart::of_stream(stream), expected(stream, answer)) {
+        (Ok(chart), Ok(wanted)) => {
+            let (p, open) = (chart.position(), wanted.position.clone());
             assert_eq!((p.ids, p.docs, p.names), (open.ids, open.docs, open.names), "{name}");
             assert_eq!((chart.depth(), p.current), (open.open.len(), open.current), "{name}");
+            assert_eq!(whole(&chart, open), wanted, "{name}");
         }
-        Answer::Stopped { word, event, reason } => {
-            let refusal = chart.expect_err(name);
-            let wanted = number(stream, &word, event, reason.as_deref().unwrap_or_default());
-            assert_eq!((refusal.number(), refusal.event()), (wanted, Some(event)), "{name}");
+        (Err(refusal), Err((number, place))) => {
+            assert_eq!((refusal.number(), refusal.event()), (number, Some(place)), "{name}");
         }
+        (Ok(_), Err(wanted)) => panic!("{name}: accepted, and not refused with {wanted:?}"),
+        (Err(refusal), Ok(_)) => panic!("{name}: {refusal}"),
     }
 }
 
@@ -261,7 +287,7 @@ fn random_streams() {
     if !rufsm::judge::is_there("random_streams") {
         return;
     }
-    for (profile, count) in [(Profile::Small, 400), (Profile::Middle, 300), (Profile::Ordinary, 60)] {
+    for (profile, count) in [(Profile::Small, 4_000), (Profile::Middle, 2_000), (Profile::Ordinary, 500)] {
         for index in 0..count {
             let stream = generate::stream(11, index, profile);
             let dump = rufsm::answer::dump(&rufsm::judge::verdict(&stream));
