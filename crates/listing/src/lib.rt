@@ -1,6 +1,5 @@
 // A chart as the program `chartlist` prints it, put into a lent buffer. What does not fit is left out.
 use definition::Position;
-use definition::StateId;
 use printing::put_bytes;
 use printing::put_list_line;
 use printing::put_name_line;
@@ -8,14 +7,13 @@ use printing::put_number_line;
 use rows::first_24;
 use rows::first_8;
 use rows::first_bytes;
-use rows::state_cell;
 use rows::text_from;
 ghost use mathlib.Core.Path.{_≡_};
 ghost use mathlib.Core.List.{[]};
 ghost use Prim.Native.Nat.{_≤_, _<_};
 ghost use lib.ListN.{length, getD, take};
-ghost use Rattle.definition.specs.Text.{str};
-ghost use Rattle.definition.specs.Rows.{rowOf, num};
+ghost use Rattle.definition.specs.Text.{str, decimal};
+ghost use Rattle.definition.specs.Rows.{num};
 ghost use Rattle.printing.specs.Added.{Added};
 ghost use Rattle.printing.specs.Lines.{line};
 ghost use Rattle.listing.specs.Listing.{stateLines, statesFrom, typeWord, transitionLines, transitionsFrom, listing, refusal};
@@ -25,22 +23,22 @@ const CHILDREN: u32 = 1;
 
 const TARGETS: u32 = 6;
 
-fn wide(x: u32) -> u64
-    ensures { λ r. ⌜ r ≡ x ⌝ }
+fn put_cell_line(out: &mut [u8], at: usize, head: &[u8], n: u32) -> usize
+    requires { ⌜ at ≤ length (now out) ⌝ }
+    ensures { λ r. ⌜ Added (now (out .entry)) at (now (out .exit)) r (line (now (head .entry)) (decimal n)) ⌝ }
 {
-    x as u64
+    put_number_line(out, at, head, n as u64)
 }
 
-fn put_state(out: &mut [u8], at: usize, text: &[u8], members: &[[u32; 8]], states: &[[u32; 24]], n: u32) -> usize
+fn put_state(out: &mut [u8], at: usize, text: &[u8], members: &[[u32; 8]], n: u32, row: [u32; 24]) -> usize
     requires { ⌜ at ≤ length (now out) ⌝ }
-    ensures { λ r. ⌜ Added (now (out .entry)) at (now (out .exit)) r (stateLines (now (text .entry)) (now (members .entry)) n (rowOf (now (states .entry)) n)) ⌝ }
+    ensures { λ r. ⌜ Added (now (out .entry)) at (now (out .exit)) r (stateLines (now (text .entry)) (now (members .entry)) n row) ⌝ }
 {
-    let name = text_from(text, state_cell(states, StateId(n), 0), state_cell(states, StateId(n), 1));
-    let a = put_number_line(out, at, b"state=", wide(n));
-    let b = put_name_line(out, a, b"name=", name);
-    let c = put_number_line(out, b, b"parent=", wide(state_cell(states, StateId(n), 4)));
-    let d = put_number_line(out, c, b"initial=", wide(state_cell(states, StateId(n), 3)));
-    let e = put_number_line(out, d, b"doc=", wide(state_cell(states, StateId(n), 2)));
+    let a = put_cell_line(out, at, b"state=", n);
+    let b = put_name_line(out, a, b"name=", text_from(text, row[0], row[1]));
+    let c = put_cell_line(out, b, b"parent=", row[4]);
+    let d = put_cell_line(out, c, b"initial=", row[3]);
+    let e = put_cell_line(out, d, b"doc=", row[2]);
     put_list_line(out, e, b"children=", members, CHILDREN, n)
 }
 
@@ -52,10 +50,19 @@ fn put_states(out: &mut [u8], at: usize, text: &[u8], members: &[[u32; 8]], stat
     let mut p = at;
     let mut i = 0;
     while i < states.len() {
+        let row = states[i];
         i += 1;
-        p = put_state(out, p, text, members, states, i as u32);
+        p = put_state(out, p, text, members, i as u32, row);
     }
     p
+}
+
+// The first of a table's states, as far as there are so many.
+fn put_first_states(out: &mut [u8], at: usize, text: &[u8], members: &[[u32; 8]], states: &[[u32; 24]], count: u32) -> usize
+    requires { ⌜ at ≤ length (now out) ⌝ }
+    ensures { λ r. ⌜ Added (now (out .entry)) at (now (out .exit)) r (statesFrom (now (text .entry)) (now (members .entry)) 1 (take count (now (states .entry)))) ⌝ }
+{
+    put_states(out, at, text, members, first_24(states, count))
 }
 
 fn put_type_line(out: &mut [u8], at: usize, t: u32) -> usize
@@ -68,18 +75,16 @@ fn put_type_line(out: &mut [u8], at: usize, t: u32) -> usize
     put_bytes(out, at, b"type=external\n")
 }
 
-fn put_transition(out: &mut [u8], at: usize, members: &[[u32; 8]], transitions: &[[u32; 8]], i: usize) -> usize
+fn put_transition(out: &mut [u8], at: usize, members: &[[u32; 8]], row: [u32; 8]) -> usize
     requires { ⌜ at ≤ length (now out) ⌝ }
-    requires { ⌜ i < length (now transitions) ⌝ }
-    ensures { λ r. ⌜ Added (now (out .entry)) at (now (out .exit)) r (transitionLines (now (members .entry)) (getD (now (transitions .entry)) i [])) ⌝ }
+    ensures { λ r. ⌜ Added (now (out .entry)) at (now (out .exit)) r (transitionLines (now (members .entry)) row) ⌝ }
 {
-    let number = transitions[i][0];
-    let a = put_number_line(out, at, b"transition=", wide(number));
-    let b = put_number_line(out, a, b"source=", wide(transitions[i][2]));
-    let c = put_list_line(out, b, b"targets=", members, TARGETS, number);
-    let d = put_type_line(out, c, transitions[i][3]);
-    let e = put_number_line(out, d, b"doc=", wide(transitions[i][1]));
-    put_number_line(out, e, b"content=", wide(transitions[i][5]))
+    let a = put_cell_line(out, at, b"transition=", row[0]);
+    let b = put_cell_line(out, a, b"source=", row[2]);
+    let c = put_list_line(out, b, b"targets=", members, TARGETS, row[0]);
+    let d = put_type_line(out, c, row[3]);
+    let e = put_cell_line(out, d, b"doc=", row[1]);
+    put_cell_line(out, e, b"content=", row[5])
 }
 
 fn put_transitions(out: &mut [u8], at: usize, members: &[[u32; 8]], transitions: &[[u32; 8]]) -> usize
@@ -89,7 +94,7 @@ fn put_transitions(out: &mut [u8], at: usize, members: &[[u32; 8]], transitions:
     let mut p = at;
     let mut i = 0;
     while i < transitions.len() {
-        p = put_transition(out, p, members, transitions, i);
+        p = put_transition(out, p, members, transitions[i]);
         i += 1;
     }
     p
@@ -115,11 +120,11 @@ pub fn put_chart(
     let t = first_8(transitions, p.transitions);
     let m = first_8(members, p.members);
     let w = first_bytes(text, p.used);
-    let a = put_number_line(out, 0, b"answer=", 0);
-    let b = put_number_line(out, a, b"root=", wide(root_of(charts)));
+    let a = put_cell_line(out, 0, b"answer=", 0);
+    let b = put_cell_line(out, a, b"root=", root_of(charts));
     let c = put_number_line(out, b, b"states=", s.len() as u64);
     let d = put_number_line(out, c, b"transitions=", t.len() as u64);
-    let e = put_states(out, d, w, m, s);
+    let e = put_first_states(out, d, w, m, states, p.states);
     put_transitions(out, e, m, t)
 }
 
@@ -127,6 +132,6 @@ pub fn put_refusal(out: &mut [u8], number: u32, event: u64) -> usize
     ensures { λ r. ⌜ r ≤ length (now (out .exit)) ⌝ }
     ensures { λ r. ⌜ take r (now (out .exit)) ≡ take (length (now (out .exit))) (refusal number event) ⌝ }
 {
-    let a = put_number_line(out, 0, b"answer=", wide(number));
+    let a = put_cell_line(out, 0, b"answer=", number);
     put_number_line(out, a, b"event=", event)
 }

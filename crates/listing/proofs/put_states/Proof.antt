@@ -1,3 +1,12 @@
+use Rattle.printing.proofs.Laws.{begun, goes-on, ended}
+use Rattle.printing.specs.Added.{Begun}
+use Prim.Native.Nat.{_≤_, _<_, _-_, suc}
+use mathlib.Core.Path.{_≡_, refl, _∙_}
+use borrow.Author.Needs.{needs}
+use native.Mathlib.Omega.{arith}
+use lib.ListN.{length, drop}
+use Rattle.listing.specs.Listing.{statesFrom}
+use Rattle.listing.proofs.Laws.{states-more, states-end}
 use Rattle.listing.proofs.put_states.Statement.{statement}
 use Rattle.listing.proofs.put_states.Tie as tie
 use Rattle.listing.proofs.put_states.Reads as reads
@@ -5,42 +14,40 @@ use Rattle.listing.proofs.put_states.Lts as lts
 use Rattle.listing.proofs.put_state.Reads as put-state-reads
 
 abbrev Inv-loop : tie.InvT-loop
-Inv-loop out₀ at text members states p₀ i₀ out p i = ?
+Inv-loop out₀ at text members states p₀ i₀ out p i = ((i ≤ length states) × (length out ≡ length out₀)) × ((p ≤ length out) × Begun out₀ at out p (statesFrom text members (suc i) (drop i states)) (statesFrom text members 1 states))
 
 abbrev μ-loop : tie.MeasureT-loop
-μ-loop out₀ at text members states p₀ i₀ out p i = ?
+μ-loop out₀ at text members states p₀ i₀ out p i = length states - i
 
--- src/lib.rt:54:5
 loop-holds : tie.Need-loop-holds Inv-loop μ-loop
-loop-holds c = ?
+loop-holds c = ((search needs, refl), (search needs, begun _ _ _ (c .before .before .pre .0)))
 
--- src/lib.rt:55:9
+mul-row : tie.Need-mul-row Inv-loop μ-loop
+mul-row c = search needs
+
+shared-slice-copy-out-row : tie.Need-shared-slice-copy-out-row Inv-loop μ-loop
+shared-slice-copy-out-row c = search needs
+
 add-i : tie.Need-add-i Inv-loop μ-loop
-add-i c = ?
+add-i c = search needs
 
--- src/lib.rt:56:54
 cast-put-state : tie.Need-cast-put-state Inv-loop μ-loop
-cast-put-state c = ?
+cast-put-state c = search needs
 
--- src/lib.rt:56:9
 put-state-requires : tie.Need-put-state-requires Inv-loop μ-loop
-put-state-requires c κs = ?
+put-state-requires c κs = c .before .before .before .loop .inv .1 .0
 
--- src/lib.rt:54:5
 loop-less : tie.Need-loop-less Inv-loop μ-loop
-loop-less c = ?
+loop-less c = search needs
 
--- src/lib.rt:54:5
 loop-again : tie.Need-loop-again Inv-loop μ-loop
-loop-again c = ?
+loop-again c = ((search needs, c .before .before .put-state .ensures .long ∙ c .before .before .before .before .before .before .loop .inv .0 .1), (c .before .before .put-state .ensures .within, goes-on (c .before .before .before .before .before .before .loop .inv .1 .1) (states-more _ _ (c .before .before .before .before .before .before .before .before .before .args .states .now) (c .before .before .before .before .before .before .loop .i) (c .before .before .before .before .before .loop-test .taken)) (c .before .before .put-state .ensures)))
 
--- src/lib.rt:47:1
 same-length : tie.Need-same-length Inv-loop μ-loop
-same-length c = ?
+same-length c = c .before .loop .inv .0 .1
 
--- src/lib.rt:47:1
 returns : tie.Need-returns Inv-loop μ-loop
-returns c = ?
+returns c = ended (c .before .loop .inv .1 .1) (states-end _ _ (c .before .before .before .before .args .states .now) (c .before .loop .i) (c .loop-test .left))
 
 pub put-states-spec : {M : Type 1} → statement M
 put-states-spec =
@@ -49,6 +56,8 @@ put-states-spec =
     Inv-loop
     μ-loop
     loop-holds
+    mul-row
+    shared-slice-copy-out-row
     add-i
     cast-put-state
     put-state-requires

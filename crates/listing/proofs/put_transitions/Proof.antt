@@ -1,3 +1,12 @@
+use Rattle.printing.proofs.Laws.{begun, goes-on, ended}
+use Rattle.printing.specs.Added.{Begun}
+use Prim.Native.Nat.{_≤_, _-_}
+use mathlib.Core.Path.{_≡_, refl, _∙_}
+use borrow.Author.Needs.{needs}
+use native.Mathlib.Omega.{arith}
+use lib.ListN.{length, drop}
+use Rattle.listing.specs.Listing.{transitionsFrom}
+use Rattle.listing.proofs.Laws.{transitions-more, transitions-end}
 use Rattle.listing.proofs.put_transitions.Statement.{statement}
 use Rattle.listing.proofs.put_transitions.Tie as tie
 use Rattle.listing.proofs.put_transitions.Reads as reads
@@ -5,38 +14,38 @@ use Rattle.listing.proofs.put_transitions.Lts as lts
 use Rattle.listing.proofs.put_transition.Reads as put-transition-reads
 
 abbrev Inv-loop : tie.InvT-loop
-Inv-loop out₀ at members transitions p₀ i₀ out p i = ?
+Inv-loop out₀ at members transitions p₀ i₀ out p i = ((i ≤ length transitions) × (length out ≡ length out₀)) × ((p ≤ length out) × Begun out₀ at out p (transitionsFrom members (drop i transitions)) (transitionsFrom members transitions))
 
 abbrev μ-loop : tie.MeasureT-loop
-μ-loop out₀ at members transitions p₀ i₀ out p i = ?
+μ-loop out₀ at members transitions p₀ i₀ out p i = length transitions - i
 
--- src/lib.rt:91:5
 loop-holds : tie.Need-loop-holds Inv-loop μ-loop
-loop-holds c = ?
+loop-holds c = ((search needs, refl), (search needs, begun _ _ _ (c .before .pre)))
 
--- src/lib.rt:92:9
+mul-put-transition : tie.Need-mul-put-transition Inv-loop μ-loop
+mul-put-transition c = search needs
+
+shared-slice-copy-out-put-transition :
+    tie.Need-shared-slice-copy-out-put-transition Inv-loop μ-loop
+shared-slice-copy-out-put-transition c = search needs
+
 put-transition-requires : tie.Need-put-transition-requires Inv-loop μ-loop
-put-transition-requires c κs = ?
+put-transition-requires c κs = c .before .before .before .loop .inv .1 .0
 
--- src/lib.rt:93:9
 add-i : tie.Need-add-i Inv-loop μ-loop
-add-i c = ?
+add-i c = search needs
 
--- src/lib.rt:91:5
 loop-less : tie.Need-loop-less Inv-loop μ-loop
-loop-less c = ?
+loop-less c = search needs
 
--- src/lib.rt:91:5
 loop-again : tie.Need-loop-again Inv-loop μ-loop
-loop-again c = ?
+loop-again c = ((search needs, c .before .before .put-transition .ensures .long ∙ c .before .before .before .before .before .before .loop .inv .0 .1), (c .before .before .put-transition .ensures .within, goes-on (c .before .before .before .before .before .before .loop .inv .1 .1) (transitions-more _ (c .before .before .before .before .before .before .before .before .args .transitions .now) (c .before .before .before .before .before .before .loop .i) (c .before .before .before .before .before .loop-test .taken)) (c .before .before .put-transition .ensures)))
 
--- src/lib.rt:85:1
 same-length : tie.Need-same-length Inv-loop μ-loop
-same-length c = ?
+same-length c = c .before .loop .inv .0 .1
 
--- src/lib.rt:85:1
 returns : tie.Need-returns Inv-loop μ-loop
-returns c = ?
+returns c = ended (c .before .loop .inv .1 .1) (transitions-end _ (c .before .before .before .args .transitions .now) (c .before .loop .i) (c .loop-test .left))
 
 pub put-transitions-spec : {M : Type 1} → statement M
 put-transitions-spec =
@@ -45,6 +54,8 @@ put-transitions-spec =
     Inv-loop
     μ-loop
     loop-holds
+    mul-put-transition
+    shared-slice-copy-out-put-transition
     put-transition-requires
     add-i
     loop-less

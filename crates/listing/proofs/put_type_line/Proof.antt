@@ -1,3 +1,6 @@
+use Rattle.definition.specs.Text.{str}
+use Rattle.printing.proofs.Laws.{added-is}
+use Rattle.listing.proofs.Laws.{type-internal, type-external}
 use borrow.Author.Needs.{needs}
 use Rattle.listing.proofs.put_type_line.Statement.{statement}
 use Rattle.listing.proofs.put_type_line.Tie as tie
@@ -5,37 +8,31 @@ use Rattle.listing.proofs.put_type_line.Reads as reads
 use Rattle.listing.proofs.put_type_line.Lts as lts
 use Rattle.printing.proofs.put_bytes.Reads as put-bytes-reads
 
--- src/lib.rt:66:35
 slice-aggregate-put-bytes : tie.Need-slice-aggregate-put-bytes
 slice-aggregate-put-bytes c = search needs
 
--- src/lib.rt:66:9
 put-bytes-requires : tie.Need-put-bytes-requires
 put-bytes-requires c κs = search needs
 
--- src/lib.rt:66:9
 same-length : tie.Need-same-length
 same-length c = search needs
 
--- src/lib.rt:66:9
 returns : tie.Need-returns
-returns c = ?
+unfolding str
+returns c = added-is (type-internal _ (c .before .before .before .before .before .if1 .taken)) (c .before .before .put-bytes .ensures)
 
--- src/lib.rt:68:24
 slice-aggregate-put-bytes-2 : tie.Need-slice-aggregate-put-bytes-2
 slice-aggregate-put-bytes-2 c = search needs
 
--- src/lib.rt:68:5
 put-bytes-requires-2 : tie.Need-put-bytes-requires-2
 put-bytes-requires-2 c κs = search needs
 
--- src/lib.rt:61:1
 same-length-2 : tie.Need-same-length-2
 same-length-2 c = search needs
 
--- src/lib.rt:61:1
 returns-2 : tie.Need-returns-2
-returns-2 c = ?
+unfolding str
+returns-2 c = added-is (type-external _ (c .before .before .before .before .before .if1 .left)) (c .before .before .put-bytes2 .ensures)
 
 pub put-type-line-spec : {M : Type 1} → statement M
 put-type-line-spec =
