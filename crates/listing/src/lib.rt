@@ -4,8 +4,8 @@ use printing::put_bytes;
 use printing::put_list_line;
 use printing::put_name_line;
 use printing::put_number_line;
-use rows::first_24;
 use rows::first_8;
+use rows::first_24;
 use rows::first_bytes;
 use rows::text_from;
 ghost use mathlib.Core.Path.{_≡_};
@@ -30,7 +30,14 @@ fn put_cell_line(out: &mut [u8], at: usize, head: &[u8], n: u32) -> usize
     put_number_line(out, at, head, n as u64)
 }
 
-fn put_state(out: &mut [u8], at: usize, text: &[u8], members: &[[u32; 8]], n: u32, row: [u32; 24]) -> usize
+fn put_state(
+    out: &mut [u8],
+    at: usize,
+    text: &[u8],
+    members: &[[u32; 8]],
+    n: u32,
+    row: [u32; 24],
+) -> usize
     requires { ⌜ at ≤ length (now out) ⌝ }
     ensures { λ r. ⌜ Added (now (out .entry)) at (now (out .exit)) r (stateLines (now (text .entry)) (now (members .entry)) n row) ⌝ }
 {
@@ -42,7 +49,13 @@ fn put_state(out: &mut [u8], at: usize, text: &[u8], members: &[[u32; 8]], n: u3
     put_list_line(out, e, b"children=", members, CHILDREN, n)
 }
 
-fn put_states(out: &mut [u8], at: usize, text: &[u8], members: &[[u32; 8]], states: &[[u32; 24]]) -> usize
+fn put_states(
+    out: &mut [u8],
+    at: usize,
+    text: &[u8],
+    members: &[[u32; 8]],
+    states: &[[u32; 24]],
+) -> usize
     requires { ⌜ at ≤ length (now out) ⌝ }
     requires { ⌜ length (now states) < 4294967296 ⌝ }
     ensures { λ r. ⌜ Added (now (out .entry)) at (now (out .exit)) r (statesFrom (now (text .entry)) (now (members .entry)) 1 (now (states .entry))) ⌝ }
@@ -58,7 +71,14 @@ fn put_states(out: &mut [u8], at: usize, text: &[u8], members: &[[u32; 8]], stat
 }
 
 // The first of a table's states, as far as there are so many.
-fn put_first_states(out: &mut [u8], at: usize, text: &[u8], members: &[[u32; 8]], states: &[[u32; 24]], count: u32) -> usize
+fn put_first_states(
+    out: &mut [u8],
+    at: usize,
+    text: &[u8],
+    members: &[[u32; 8]],
+    states: &[[u32; 24]],
+    count: u32,
+) -> usize
     requires { ⌜ at ≤ length (now out) ⌝ }
     ensures { λ r. ⌜ Added (now (out .entry)) at (now (out .exit)) r (statesFrom (now (text .entry)) (now (members .entry)) 1 (take count (now (states .entry)))) ⌝ }
 {
@@ -87,7 +107,12 @@ fn put_transition(out: &mut [u8], at: usize, members: &[[u32; 8]], row: [u32; 8]
     put_cell_line(out, e, b"content=", row[5])
 }
 
-fn put_transitions(out: &mut [u8], at: usize, members: &[[u32; 8]], transitions: &[[u32; 8]]) -> usize
+fn put_transitions(
+    out: &mut [u8],
+    at: usize,
+    members: &[[u32; 8]],
+    transitions: &[[u32; 8]],
+) -> usize
     requires { ⌜ at ≤ length (now out) ⌝ }
     ensures { λ r. ⌜ Added (now (out .entry)) at (now (out .exit)) r (transitionsFrom (now (members .entry)) (now (transitions .entry))) ⌝ }
 {
@@ -111,7 +136,13 @@ fn root_of(charts: &[[u32; 24]]) -> u32
 
 /// The rows in use, listed: how many bytes of the buffer are to be printed, and what they are.
 pub fn put_chart(
-    out: &mut [u8], charts: &[[u32; 24]], states: &[[u32; 24]], transitions: &[[u32; 8]], members: &[[u32; 8]], text: &[u8], p: Position,
+    out: &mut [u8],
+    charts: &[[u32; 24]],
+    states: &[[u32; 24]],
+    transitions: &[[u32; 8]],
+    members: &[[u32; 8]],
+    text: &[u8],
+    p: Position,
 ) -> usize
     ensures { λ r. ⌜ r ≤ length (now (out .exit)) ⌝ }
     ensures { λ r. ⌜ take r (now (out .exit)) ≡ take (length (now (out .exit))) (listing (now (charts .entry)) (take (p .states) (now (states .entry))) (take (p .transitions) (now (transitions .entry))) (take (p .members) (now (members .entry))) (take (p .used) (now (text .entry)))) ⌝ }

@@ -6,7 +6,7 @@ use Prim.Native.Nat.{ℕ, zero, suc, _+_, _-_, _≤_, _<_}
 use native.Mathlib.Omega.{arith}
 use lib.Dec.{eqb}
 use lib.ListN.{length, getD, take, drop, set, length-set, length-append, length-drop, take-append-drop}
-use lib.Seq.{drop-cons, take-suc, take-suc-set, getD-drop, drop-drop, drop-set-lt}
+use lib.Seq.{length-take-le, drop-cons, take-suc, take-suc-set, getD-drop, drop-drop, drop-set-lt}
 use native.Mathlib.Numerals.{add-one}
 use borrow.Author.Tests.{eqb-true}
 use Rattle.definition.specs.Text.{str}
@@ -244,3 +244,8 @@ move-on s t from i h (l, (m, r)) = (length-set t i x ∙ l, (front, rest))
 
     rest : drop (i + 1) (set t i x) ≡ drop (i + 1) s
     rest = drop-set-lt (i + 1) t i x (omega arith) ∙ sym (drop-drop 1 i t) ∙ ap (λ (u : List ℕ). drop 1 u) r ∙ drop-drop 1 i s
+
+-- ---- a piece of what a buffer holds lies in the buffer
+
+pub end-fits : (held end : ℕ) (b : List ℕ) → held ≤ length b → end ≤ length (take held b) → end ≤ length b
+end-fits held end b h k = omega (arith, length-take-le held b h)

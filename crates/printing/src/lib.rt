@@ -148,7 +148,14 @@ fn wide(x: u32) -> u64
     x as u64
 }
 
-pub fn put_list_line(out: &mut [u8], at: usize, head: &[u8], members: &[[u32; 8]], list: u32, owner: u32) -> usize
+pub fn put_list_line(
+    out: &mut [u8],
+    at: usize,
+    head: &[u8],
+    members: &[[u32; 8]],
+    list: u32,
+    owner: u32,
+) -> usize
     requires { ⌜ at ≤ length (now out) ⌝ }
     ensures { λ r. ⌜ Added (now (out .entry)) at (now (out .exit)) r (line (now (head .entry)) (spaced (numbersOf list owner (now (members .entry))))) ⌝ }
 {

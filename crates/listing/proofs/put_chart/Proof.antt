@@ -5,16 +5,6 @@ use mathlib.Core.Path.{_∙_}
 use borrow.Author.Needs.{needs}
 use Rattle.listing.proofs.put_chart.Statement.{statement}
 use Rattle.listing.proofs.put_chart.Tie as tie
-use Rattle.listing.proofs.put_chart.Reads as reads
-use Rattle.listing.proofs.put_chart.Lts as lts
-use Rattle.listing.proofs.put_cell_line.Reads as put-cell-line-reads
-use Rattle.listing.proofs.put_first_states.Reads as put-first-states-reads
-use Rattle.listing.proofs.put_transitions.Reads as put-transitions-reads
-use Rattle.listing.proofs.root_of.Reads as root-of-reads
-use Rattle.printing.proofs.put_number_line.Reads as put-number-line-reads
-use Rattle.rows.proofs.first_24.Reads as first-24-reads
-use Rattle.rows.proofs.first_8.Reads as first-8-reads
-use Rattle.rows.proofs.first_bytes.Reads as first-bytes-reads
 
 first-24-requires : tie.Need-first-24-requires
 first-24-requires c κs = search needs

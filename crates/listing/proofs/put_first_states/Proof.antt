@@ -7,10 +7,6 @@ use native.Mathlib.Omega.{arith}
 use borrow.Author.Needs.{needs}
 use Rattle.listing.proofs.put_first_states.Statement.{statement}
 use Rattle.listing.proofs.put_first_states.Tie as tie
-use Rattle.listing.proofs.put_first_states.Reads as reads
-use Rattle.listing.proofs.put_first_states.Lts as lts
-use Rattle.listing.proofs.put_states.Reads as put-states-reads
-use Rattle.rows.proofs.first_24.Reads as first-24-reads
 
 first-24-requires : tie.Need-first-24-requires
 first-24-requires c κs = search needs

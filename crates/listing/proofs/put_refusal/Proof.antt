@@ -5,10 +5,6 @@ use Rattle.listing.proofs.Laws.{printed}
 use borrow.Author.Needs.{needs}
 use Rattle.listing.proofs.put_refusal.Statement.{statement}
 use Rattle.listing.proofs.put_refusal.Tie as tie
-use Rattle.listing.proofs.put_refusal.Reads as reads
-use Rattle.listing.proofs.put_refusal.Lts as lts
-use Rattle.listing.proofs.put_cell_line.Reads as put-cell-line-reads
-use Rattle.printing.proofs.put_number_line.Reads as put-number-line-reads
 
 slice-aggregate-put-cell-line : tie.Need-slice-aggregate-put-cell-line
 slice-aggregate-put-cell-line c = search needs

@@ -1,7 +1,7 @@
 use Rattle.printing.proofs.Laws.{added-is, added-then}
 use Rattle.printing.specs.Lines.{line, escaped}
 use Rattle.definition.specs.Text.{str}
-use Rattle.definition.specs.Rows.{textAt, cellAt, textFrom}
+use Rattle.definition.specs.Rows.{textAt, cellAt}
 use Rattle.listing.specs.Listing.{stateLines, nameOf}
 use mathlib.Core.List.{List}
 use mathlib.Core.Path.{_∙_, ap}
@@ -9,12 +9,6 @@ use Prim.Native.Nat.{ℕ}
 use borrow.Author.Needs.{needs}
 use Rattle.listing.proofs.put_state.Statement.{statement}
 use Rattle.listing.proofs.put_state.Tie as tie
-use Rattle.listing.proofs.put_state.Reads as reads
-use Rattle.listing.proofs.put_state.Lts as lts
-use Rattle.listing.proofs.put_cell_line.Reads as put-cell-line-reads
-use Rattle.printing.proofs.put_list_line.Reads as put-list-line-reads
-use Rattle.printing.proofs.put_name_line.Reads as put-name-line-reads
-use Rattle.rows.proofs.text_from.Reads as text-from-reads
 
 slice-aggregate-put-cell-line : tie.Need-slice-aggregate-put-cell-line
 slice-aggregate-put-cell-line c = search needs

@@ -1,17 +1,13 @@
 use Rattle.printing.proofs.Laws.{begun, goes-on, ended}
 use Rattle.printing.specs.Added.{Begun}
-use Prim.Native.Nat.{_≤_, _<_, _-_, suc}
+use Prim.Native.Nat.{_≤_, _-_, suc}
 use mathlib.Core.Path.{_≡_, refl, _∙_}
 use borrow.Author.Needs.{needs}
-use native.Mathlib.Omega.{arith}
 use lib.ListN.{length, drop}
 use Rattle.listing.specs.Listing.{statesFrom}
 use Rattle.listing.proofs.Laws.{states-more, states-end}
 use Rattle.listing.proofs.put_states.Statement.{statement}
 use Rattle.listing.proofs.put_states.Tie as tie
-use Rattle.listing.proofs.put_states.Reads as reads
-use Rattle.listing.proofs.put_states.Lts as lts
-use Rattle.listing.proofs.put_state.Reads as put-state-reads
 
 abbrev Inv-loop : tie.InvT-loop
 Inv-loop out₀ at text members states p₀ i₀ out p i = ((i ≤ length states) × (length out ≡ length out₀)) × ((p ≤ length out) × Begun out₀ at out p (statesFrom text members (suc i) (drop i states)) (statesFrom text members 1 states))

@@ -5,11 +5,6 @@ use mathlib.Core.Path.{_∙_}
 use borrow.Author.Needs.{needs}
 use Rattle.listing.proofs.put_transition.Statement.{statement}
 use Rattle.listing.proofs.put_transition.Tie as tie
-use Rattle.listing.proofs.put_transition.Reads as reads
-use Rattle.listing.proofs.put_transition.Lts as lts
-use Rattle.listing.proofs.put_cell_line.Reads as put-cell-line-reads
-use Rattle.listing.proofs.put_type_line.Reads as put-type-line-reads
-use Rattle.printing.proofs.put_list_line.Reads as put-list-line-reads
 
 slice-aggregate-put-cell-line : tie.Need-slice-aggregate-put-cell-line
 slice-aggregate-put-cell-line c = search needs

@@ -3,15 +3,11 @@ use Rattle.printing.specs.Added.{Begun}
 use Prim.Native.Nat.{_≤_, _-_}
 use mathlib.Core.Path.{_≡_, refl, _∙_}
 use borrow.Author.Needs.{needs}
-use native.Mathlib.Omega.{arith}
 use lib.ListN.{length, drop}
 use Rattle.listing.specs.Listing.{transitionsFrom}
 use Rattle.listing.proofs.Laws.{transitions-more, transitions-end}
 use Rattle.listing.proofs.put_transitions.Statement.{statement}
 use Rattle.listing.proofs.put_transitions.Tie as tie
-use Rattle.listing.proofs.put_transitions.Reads as reads
-use Rattle.listing.proofs.put_transitions.Lts as lts
-use Rattle.listing.proofs.put_transition.Reads as put-transition-reads
 
 abbrev Inv-loop : tie.InvT-loop
 Inv-loop out₀ at members transitions p₀ i₀ out p i = ((i ≤ length transitions) × (length out ≡ length out₀)) × ((p ≤ length out) × Begun out₀ at out p (transitionsFrom members (drop i transitions)) (transitionsFrom members transitions))

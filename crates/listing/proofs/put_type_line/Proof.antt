@@ -4,9 +4,6 @@ use Rattle.listing.proofs.Laws.{type-internal, type-external}
 use borrow.Author.Needs.{needs}
 use Rattle.listing.proofs.put_type_line.Statement.{statement}
 use Rattle.listing.proofs.put_type_line.Tie as tie
-use Rattle.listing.proofs.put_type_line.Reads as reads
-use Rattle.listing.proofs.put_type_line.Lts as lts
-use Rattle.printing.proofs.put_bytes.Reads as put-bytes-reads
 
 slice-aggregate-put-bytes : tie.Need-slice-aggregate-put-bytes
 slice-aggregate-put-bytes c = search needs

@@ -2,8 +2,6 @@ use Rattle.listing.proofs.Laws.{root-none}
 use borrow.Author.Needs.{needs}
 use Rattle.listing.proofs.root_of.Statement.{statement}
 use Rattle.listing.proofs.root_of.Tie as tie
-use Rattle.listing.proofs.root_of.Reads as reads
-use Rattle.listing.proofs.root_of.Lts as lts
 
 returns : tie.Need-returns
 returns c = root-none (c .before .args .charts .now) (c .if1 .taken)

@@ -5,9 +5,6 @@ use borrow.Author.Needs.{needs}
 use lib.ListN.{length}
 use Rattle.pieces.proofs.last_event.Statement.{statement}
 use Rattle.pieces.proofs.last_event.Tie as tie
-use Rattle.pieces.proofs.last_event.Reads as reads
-use Rattle.pieces.proofs.last_event.Lts as lts
-use Rattle.lines.proofs.next_event.Reads as next-event-reads
 
 abbrev Inv-loop : tie.InvT-loop
 Inv-loop stream at₀ before₀ next₀ at before next = Walked stream at before next

@@ -3,11 +3,8 @@ use Prim.Native.Nat.{_+_, _-_, _≤_}
 use mathlib.Core.Path.{_≡_, refl}
 use native.Mathlib.Omega.{arith}
 use borrow.Author.Needs.{needs}
-use lib.ListN.{length}
 use Rattle.pieces.proofs.move_to_front.Statement.{statement}
 use Rattle.pieces.proofs.move_to_front.Tie as tie
-use Rattle.pieces.proofs.move_to_front.Reads as reads
-use Rattle.pieces.proofs.move_to_front.Lts as lts
 
 abbrev Inv-loop : tie.InvT-loop
 Inv-loop bytes₀ from to i₀ bytes i = (from + i ≤ to) × Moved bytes₀ from bytes i

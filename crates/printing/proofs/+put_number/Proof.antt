@@ -1,20 +1,19 @@
 use Rattle.printing.proofs.Laws.{added-is, added-then, decimal-one, decimal-more}
-use Prim.Native.Nat.{_/_}
-use mathlib.Core.Path.{sym, subst, _∙_, ap}
-use mathlib.Core.List.{List, _∷_, [], _++_}
+use Prim.Native.Nat.{ℕ, _/_, _<_}
+use mathlib.Core.Path.{sym, _∙_, ap}
+use mathlib.Core.List.{_∷_, [], _++_}
 use native.Mathlib.Omega.{arith}
 use Rattle.definition.specs.Text.{decimal}
 use borrow.Author.Needs.{needs}
-use Prim.Native.Nat.{ℕ, _<_}
 use borrow.Fn.Kinds.{In}
 use borrow.Fn.PlainCycle.{Measures, is, falls, and}
+use Rattle.printing.proofs.+put_number.{statement}
+use Rattle.printing.proofs.+put_number.Tie.{close}
 use Rattle.printing.proofs.put_number.Reads as put-number
 use Rattle.printing.proofs.put_number.Kinds as put-number-kinds
 use Rattle.printing.proofs.+put_number.Lts-put_number as put-number-lts
 use Rattle.printing.proofs.digit.Reads as digit-reads
 use Rattle.printing.proofs.put_byte.Reads as put-byte-reads
-use Rattle.printing.proofs.+put_number.{statement}
-use Rattle.printing.proofs.+put_number.Tie.{close}
 
 abbrev μ-put-number : Measures 1 put-number-kinds.ps ℕ
 μ-put-number κs a = a .1 .1 .0

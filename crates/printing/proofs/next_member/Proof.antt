@@ -1,15 +1,12 @@
 use Rattle.printing.proofs.Laws.{member-more}
 use Prim.Native.Nat.{_≤_, _-_}
 use mathlib.Core.Path.{_≡_, refl, _∙_}
-use mathlib.Core.List.{[]}
 use native.Mathlib.Omega.{arith}
 use borrow.Author.Needs.{needs}
-use lib.ListN.{length, drop, getD}
+use lib.ListN.{length, drop}
 use Rattle.definition.specs.Rows.{listed, sameList}
 use Rattle.printing.proofs.next_member.Statement.{statement}
 use Rattle.printing.proofs.next_member.Tie as tie
-use Rattle.printing.proofs.next_member.Reads as reads
-use Rattle.printing.proofs.next_member.Lts as lts
 
 abbrev Inv-loop : tie.InvT-loop
 Inv-loop members from list owner i₀ i = (from ≤ i) × (listed list owner (drop from members) ≡ listed list owner (drop i members))

@@ -2,8 +2,6 @@ use Rattle.printing.proofs.Laws.{byte-left, byte-put}
 use borrow.Author.Needs.{needs}
 use Rattle.printing.proofs.put_byte.Statement.{statement}
 use Rattle.printing.proofs.put_byte.Tie as tie
-use Rattle.printing.proofs.put_byte.Reads as reads
-use Rattle.printing.proofs.put_byte.Lts as lts
 
 returns : tie.Need-returns
 returns c = byte-left _ _ _ (c .before .pre) (c .if1 .taken)

@@ -6,9 +6,6 @@ use borrow.Author.Needs.{needs}
 use lib.ListN.{length, drop, drop-of-length-le}
 use Rattle.printing.proofs.put_bytes.Statement.{statement}
 use Rattle.printing.proofs.put_bytes.Tie as tie
-use Rattle.printing.proofs.put_bytes.Reads as reads
-use Rattle.printing.proofs.put_bytes.Lts as lts
-use Rattle.printing.proofs.put_byte.Reads as put-byte-reads
 
 abbrev Inv-loop : tie.InvT-loop
 Inv-loop out₀ at w p₀ i₀ out p i = ((i ≤ length w) × (length out ≡ length out₀)) × ((p ≤ length out) × Begun out₀ at out p (drop i w) w)

@@ -3,10 +3,6 @@ use mathlib.Core.Path.{sym}
 use borrow.Author.Needs.{needs}
 use Rattle.printing.proofs.put_escape.Statement.{statement}
 use Rattle.printing.proofs.put_escape.Tie as tie
-use Rattle.printing.proofs.put_escape.Reads as reads
-use Rattle.printing.proofs.put_escape.Lts as lts
-use Rattle.printing.proofs.put_byte.Reads as put-byte-reads
-use Rattle.printing.proofs.put_bytes.Reads as put-bytes-reads
 
 slice-aggregate-put-bytes : tie.Need-slice-aggregate-put-bytes
 slice-aggregate-put-bytes c = search needs

@@ -7,9 +7,6 @@ use borrow.Author.Needs.{needs}
 use lib.ListN.{length, drop}
 use Rattle.printing.proofs.put_escaped.Statement.{statement}
 use Rattle.printing.proofs.put_escaped.Tie as tie
-use Rattle.printing.proofs.put_escaped.Reads as reads
-use Rattle.printing.proofs.put_escaped.Lts as lts
-use Rattle.printing.proofs.put_escape.Reads as put-escape-reads
 
 abbrev Inv-loop : tie.InvT-loop
 Inv-loop out₀ at w p₀ i₀ out p i = ((i ≤ length w) × (length out ≡ length out₀)) × ((p ≤ length out) × Begun out₀ at out p (escaped (drop i w)) (escaped w))

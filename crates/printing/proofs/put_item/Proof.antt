@@ -2,10 +2,6 @@ use Rattle.printing.proofs.Laws.{added-is, added-then, gap-none, gap-on
 use borrow.Author.Needs.{needs}
 use Rattle.printing.proofs.put_item.Statement.{statement}
 use Rattle.printing.proofs.put_item.Tie as tie
-use Rattle.printing.proofs.put_item.Reads as reads
-use Rattle.printing.proofs.put_item.Lts as lts
-use Rattle.printing.proofs.put_byte.Reads as put-byte-reads
-use Rattle.printing.proofs.put_number.Reads as put-number-reads
 
 put-number-requires : tie.Need-put-number-requires
 put-number-requires c κs = search needs

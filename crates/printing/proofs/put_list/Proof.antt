@@ -6,16 +6,10 @@ use Prim.Native.Nat.{_≤_, _<_, _-_}
 use mathlib.Core.Bool.{true}
 use mathlib.Core.List.{[]}
 use mathlib.Core.Path.{_≡_, refl, _∙_}
-use native.Mathlib.Omega.{arith}
 use borrow.Author.Needs.{needs}
 use lib.ListN.{length, getD, drop}
 use Rattle.printing.proofs.put_list.Statement.{statement}
 use Rattle.printing.proofs.put_list.Tie as tie
-use Rattle.printing.proofs.put_list.Reads as reads
-use Rattle.printing.proofs.put_list.Lts as lts
-use Rattle.printing.proofs.next_member.Reads as next-member-reads
-use Rattle.printing.proofs.put_item.Reads as put-item-reads
-use Rattle.printing.proofs.wide.Reads as wide-reads
 
 abbrev Inv-loop : tie.InvT-loop
 Inv-loop out₀ at members list owner p₀ first₀ i₀ out p first i = ((p ≤ length out) × (length out ≡ length out₀)) × (((i < length members → sameList list owner (getD members i []) ≡ true) × Begun out₀ at out p (spacedFrom first (numbersOf list owner (drop i members))) (spaced (numbersOf list owner members))))

@@ -1,13 +1,9 @@
-use mathlib.Core.Path.{_≡_, refl, _∙_}
+use mathlib.Core.Path.{_≡_, refl}
 use Prim.Native.Nat.{_-_}
-use native.Mathlib.Omega.{arith}
 use borrow.Author.Needs.{needs}
 use lib.ListN.{length}
-use Rattle.chartlist.proofs.fill.Statement.{statement}
-use Rattle.chartlist.proofs.fill.Tie as tie
-use Rattle.chartlist.proofs.fill.Reads as reads
-use Rattle.chartlist.proofs.fill.Lts as lts
-use Rattle.chartlist.proofs.read_once.Reads as read-once-reads
+use Rattle.pieces.proofs.fill.Statement.{statement}
+use Rattle.pieces.proofs.fill.Tie as tie
 
 abbrev Inv-loop : tie.InvT-loop
 Inv-loop buffer₀ held input₀ buffer input = length buffer ≡ length buffer₀
