@@ -1,6 +1,6 @@
 // Reads event lines on standard input and prints the chart that they make, or the first refusal.
 use definition::Position;
-use feeding::read_all;
+use input::read_all;
 use libc::STDOUT_FILENO;
 use listing::put_chart;
 use listing::put_refusal;

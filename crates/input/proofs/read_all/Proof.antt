@@ -1,9 +1,9 @@
-use Rattle.feeding.proofs.Laws.{some-left}
+use Rattle.input.proofs.Laws.{some-left}
 use mathlib.Core.Path.{_≡_, refl, _∙_}
 use native.Mathlib.Omega.{arith}
 use lib.ListN.{length}
-use Rattle.feeding.proofs.read_all.Statement.{statement}
-use Rattle.feeding.proofs.read_all.Tie as tie
+use Rattle.input.proofs.read_all.Statement.{statement}
+use Rattle.input.proofs.read_all.Tie as tie
 
 abbrev Inv-loop : tie.InvT-loop
 Inv-loop chart₀ states₀ transitions₀ regions₀ entries₀ invokes₀ datums₀ parameters₀ members₀ opened₀ open-names₀ open-regions₀ text₀ buffer₀ now₀ turns₀ chart states transitions regions entries invokes datums parameters members opened open-names open-regions text buffer now turns =
