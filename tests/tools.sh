@@ -26,3 +26,11 @@ build_judge() {
     cargo build --release --quiet -p rufsm
     [ -x "$judge" ] || red "cargo built no $judge"
 }
+
+# Proves and builds the program chartlist; quick where nothing has changed. A line for each crate that is proved now.
+build_chartlist() {
+    need rt "the Rattle toolchain"
+    [ -x target/bin/chartlist ] || say "Building chartlist: the crates that it stands on are proved first. From a fresh clone that takes some minutes; a line follows for each."
+    rt check chartlist | awk '/^rt: / && !/unchanged/ && !/^rt: ok/ { print; fflush() }' || red "rt check chartlist"
+    [ -x target/bin/chartlist ] || red "rt check built no target/bin/chartlist"
+}
