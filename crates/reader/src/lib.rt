@@ -165,7 +165,7 @@ pub fn stream(
     if bytes.len() == 0 {
         return end(0, 0, p);
     }
-    let first = asked(
+    let no = asked(
         chart,
         states,
         transitions,
@@ -181,8 +181,8 @@ pub fn stream(
         text,
         p,
     );
-    if first != 0 {
-        return end(first, 1, p);
+    if no != 0 {
+        return end(no, 1, p);
     }
     feed_all(
         chart,
