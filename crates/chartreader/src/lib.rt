@@ -1,17 +1,17 @@
 // The reader for C and Rust, through a static library: a slice crosses as a pointer and a count, a position by value.
 use definition::Position;
 use feed::Answer;
-use reader::Streamed;
 use reader::event;
 use reader::stream;
 use reading::read_row_bytes;
+use streams::Streamed;
 ghost use mathlib.Core.Path.{_≡_};
 ghost use Rattle.definition.specs.Limits.{limits01};
 ghost use Rattle.definition.specs.Reader as R;
 ghost use Rattle.questions.specs.Lent.{tables, lent};
 ghost use Rattle.reading.specs.Bytes.{outOf, rowOut};
 ghost use Rattle.feed.specs.Fed.{given};
-ghost use Rattle.reader.specs.Stream.{ended};
+ghost use Rattle.streams.specs.Stream.{ended};
 
 /// One event.
 #[no_mangle]

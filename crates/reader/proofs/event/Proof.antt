@@ -1,6 +1,6 @@
 use mathlib.Core.Path.{refl, sym, _∙_}
 use Rattle.questions.specs.Lent.{tables, lent}
-use Rattle.reader.proofs.Laws.{gives, call-refused, call-answered}
+use Rattle.streams.proofs.Laws.{gives, call-refused, call-answered}
 use borrow.Author.Needs.{needs}
 use Rattle.reader.proofs.event.Statement.{statement}
 use Rattle.reader.proofs.event.Tie as tie

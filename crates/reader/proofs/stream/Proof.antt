@@ -1,14 +1,14 @@
 use mathlib.Core.Path.{refl, sym, _∙_}
 use Rattle.questions.specs.Lent.{tables, lent}
-use Rattle.reader.proofs.Laws.{ends, stream-none, stream-refused}
+use Rattle.streams.proofs.Laws.{ends, stream-none, stream-refused}
 use borrow.Author.Needs.{needs}
 use Rattle.reader.proofs.stream.Statement.{statement}
 use Rattle.reader.proofs.stream.Tie as tie
 use Rattle.reader.proofs.stream.Reads as reads
 use Rattle.reader.proofs.stream.Lts as lts
 use Rattle.questions.proofs.asked.Reads as asked-reads
-use Rattle.reader.proofs.end.Reads as end-reads
-use Rattle.reader.proofs.feed_all.Reads as feed-all-reads
+use Rattle.streams.proofs.end.Reads as end-reads
+use Rattle.streams.proofs.feed_all.Reads as feed-all-reads
 
 end-requires : tie.Need-end-requires
 end-requires c κs = search needs

@@ -18,8 +18,8 @@ use Rattle.lines.proofs.LineLaws.{events-by-length}
 use Rattle.questions.specs.Lent.{firstTwo}
 use Rattle.feed.specs.declared.Answer as F
 use Rattle.feed.specs.Fed.{given}
-use Rattle.reader.specs.declared.Streamed as T
-use Rattle.reader.specs.Stream.{ended}
+use Rattle.streams.specs.declared.Streamed as T
+use Rattle.streams.specs.Stream.{ended}
 
 -- ---- the questions 1 and 2
 

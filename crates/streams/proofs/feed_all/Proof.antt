@@ -3,16 +3,16 @@ use mathlib.Core.Path.{refl, sym, _∙_}
 use native.Mathlib.Omega.{arith}
 use lib.ListN.{length}
 use Rattle.questions.specs.Lent.{tables, lent}
-use Rattle.reader.proofs.Lens.{Lens, unchanged}
-use Rattle.reader.proofs.Laws.{ends, Ran, ran-first, goes-on, ran-more, ran-stop, ran-last}
-use Rattle.reader.proofs.feed_all.Statement.{statement}
-use Rattle.reader.proofs.feed_all.Tie as tie
-use Rattle.reader.proofs.feed_all.Reads as reads
-use Rattle.reader.proofs.feed_all.Lts as lts
+use Rattle.streams.proofs.Lens.{Lens, unchanged}
+use Rattle.streams.proofs.Laws.{ends, Ran, ran-first, goes-on, ran-more, ran-stop, ran-last}
+use Rattle.streams.proofs.feed_all.Statement.{statement}
+use Rattle.streams.proofs.feed_all.Tie as tie
+use Rattle.streams.proofs.feed_all.Reads as reads
+use Rattle.streams.proofs.feed_all.Lts as lts
 use Rattle.feed.proofs.feed.Reads as feed-reads
 use Rattle.lines.proofs.next_event.Reads as next-event-reads
 use Rattle.lines.proofs.part_of.Reads as part-of-reads
-use Rattle.reader.proofs.end.Reads as end-reads
+use Rattle.streams.proofs.end.Reads as end-reads
 
 abbrev Inv-loop : tie.InvT-loop
 Inv-loop chart₀ states₀ transitions₀ regions₀ entries₀ invokes₀ datums₀ parameters₀ members₀ opened₀ names₀ pending₀ text₀ bytes q₀ i₀ n₀ chart states transitions regions entries invokes datums parameters members opened names pending text q i n =
