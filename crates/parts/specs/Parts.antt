@@ -1,18 +1,24 @@
 -- What an event's lines have brought: each part by where it is written, and the numbers of its element and keys.
-use Prim.Native.Nat.{ℕ, _+_}
+use Prim.Native.Nat.{ℕ, _+_, _<_}
+use mathlib.Core.Path.{_≡_}
 use mathlib.Core.Bool.{Bool, true, false}
+use mathlib.Core.List.{List}
 use lib.ListN.{set, replicate}
 use lib.Dec.{ltb}
 use Rattle.definition.specs.Limits.{limits01}
 use Rattle.parts.specs.declared.Part.{Part}
 use Rattle.parts.specs.declared.Pair.{Pair}
 use Rattle.parts.specs.declared.Walked.{Walked}
+use Rattle.parts.specs.declared.Cursor.{Cursor}
 
 abbrev pub partAt : ℕ → ℕ → ℕ → Part
 partAt at len size = record { at = at; len = len; size = size }
 
 abbrev pub noPair : Pair
 noPair = record { code = 0; key = partAt 0 0 0; value = partAt 0 0 0 }
+
+abbrev pub noPairs : List Pair
+noPairs = replicate 16 noPair
 
 -- `next` says which line may come: 0 `event=`, 1 `name=`, 2 `key=`, `text=` or none, 3 `value=`, 4 none; 5: the event is out of form.
 unfoldable pub begun : Walked
@@ -25,7 +31,7 @@ begun =
       code = 0;
       key = partAt 0 0 0;
       count = 0;
-      pairs = replicate 16 noPair;
+      pairs = noPairs;
       text = partAt 0 0 0;
     }
 
@@ -121,3 +127,28 @@ roomLeft count = ltb count (limits01 .attributes)
 unfoldable pub addedValue : Part → Walked → Walked
 unfolding roomLeft withValue broken
 addedValue p d = elim (roomLeft (d .count)) [ true ↦ withValue p d | false ↦ broken d ]
+
+-- ---- as the code has it: a cursor, and the attributes beside it
+
+abbrev pub whole : Cursor → List Pair → Walked
+whole c ps =
+    record {
+      next = c .next;
+      kind = c .kind;
+      tag = c .tag;
+      name = c .name;
+      code = c .code;
+      key = c .key;
+      count = c .count;
+      pairs = ps;
+      text = c .text;
+    }
+
+-- The attributes after a line: n were there before.
+abbrev pub grown : ℕ → Cursor → List Pair → List Pair
+grown n r ps = elim (r .added) [ true ↦ set ps n (record { code = r .code; key = r .key; value = r .value }) | false ↦ ps ]
+
+-- A line takes the cursor d to r: together with the attributes that is f.
+pub record Steps (d r : Cursor) (f : Walked → Walked) : Type 0 where
+  pub is : (ps : List Pair) → whole r (grown (d .count) r ps) ≡ f (whole d ps)
+  pub room : r .added ≡ true → d .count < 16

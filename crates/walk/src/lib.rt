@@ -6,12 +6,16 @@ use lines::line_end;
 use lines::scan_line;
 use nesting::key_of;
 use nesting::tag_of;
+use parts::Cursor;
+use parts::Pair;
 use parts::Part;
 use parts::Walked;
 use parts::add_value;
 use parts::break_off;
 use parts::kind_of;
+use parts::no_pairs;
 use parts::start;
+use parts::together;
 use parts::wide;
 ghost use mathlib.Core.Path.{_≡_};
 ghost use mathlib.Core.Bool.{true};
@@ -20,6 +24,7 @@ ghost use lib.ListN.{length};
 ghost use Rattle.definition.specs.Text.{str};
 ghost use Rattle.definition.specs.Event.{lineOf};
 ghost use Rattle.lines.specs.Lines.{hasHead};
+ghost use Rattle.parts.specs.Parts.{Steps};
 ghost use Rattle.walk.specs.Walk.{found, onEvent, onName, onKey, onValue, step, walked};
 
 // A part, and whether it is legible and within its limits.
@@ -61,22 +66,23 @@ fn find_part(written: &[u8], at: usize, low: usize, high: u32) -> Found
 }
 
 // One line more, by what may come.
-fn on_event(line: &[u8], d: Walked) -> Walked
-    ensures { λ r. ⌜ r ≡ onEvent (lineOf (now (line .entry))) d ⌝ }
+fn on_event(line: &[u8], d: Cursor) -> Cursor
+    ensures { λ r. ⌜ Steps d r (onEvent (lineOf (now (line .entry)))) ⌝ }
 {
     if !has_head(line, b"event=") {
         return break_off(d);
     }
     let kind = kind_of(after_head(line, 6));
     let mut e = d;
+    e.added = false;
     e.next = 1;
     e.kind = kind;
     e
 }
 
-fn on_name(line: &[u8], at: usize, d: Walked) -> Walked
+fn on_name(line: &[u8], at: usize, d: Cursor) -> Cursor
     requires { ⌜ at + length (now line) < 2 ^ 16 ⌝ }
-    ensures { λ r. ⌜ r ≡ onName at (lineOf (now (line .entry))) d ⌝ }
+    ensures { λ r. ⌜ Steps d r (onName at (lineOf (now (line .entry)))) ⌝ }
 {
     if !has_head(line, b"name=") {
         return break_off(d);
@@ -89,16 +95,17 @@ fn on_name(line: &[u8], at: usize, d: Walked) -> Walked
     let part = f.part;
     let tag = tag_of(name);
     let mut e = d;
+    e.added = false;
     e.next = 2;
     e.tag = tag;
     e.name = part;
     e
 }
 
-fn on_text(line: &[u8], at: usize, d: Walked) -> Walked
+fn on_text(line: &[u8], at: usize, d: Cursor) -> Cursor
     requires { ⌜ at + length (now line) < 2 ^ 16 ⌝ }
     requires { ⌜ hasHead (str "text=") (now line) ≡ true ⌝ }
-    ensures { λ r. ⌜ r ≡ onKey at (lineOf (now (line .entry))) d ⌝ }
+    ensures { λ r. ⌜ Steps d r (onKey at (lineOf (now (line .entry)))) ⌝ }
 {
     let f = find_part(after_head(line, 5), at + 5, 0, Chart::TEXT);
     if !f.ok {
@@ -106,14 +113,15 @@ fn on_text(line: &[u8], at: usize, d: Walked) -> Walked
     }
     let part = f.part;
     let mut e = d;
+    e.added = false;
     e.next = 4;
     e.text = part;
     e
 }
 
-fn on_key(line: &[u8], at: usize, d: Walked) -> Walked
+fn on_key(line: &[u8], at: usize, d: Cursor) -> Cursor
     requires { ⌜ at + length (now line) < 2 ^ 16 ⌝ }
-    ensures { λ r. ⌜ r ≡ onKey at (lineOf (now (line .entry))) d ⌝ }
+    ensures { λ r. ⌜ Steps d r (onKey at (lineOf (now (line .entry)))) ⌝ }
 {
     if has_head(line, b"text=") {
         return on_text(line, at, d);
@@ -129,15 +137,16 @@ fn on_key(line: &[u8], at: usize, d: Walked) -> Walked
     let part = f.part;
     let code = key_of(key);
     let mut e = d;
+    e.added = false;
     e.next = 3;
     e.code = code;
     e.key = part;
     e
 }
 
-fn on_value(line: &[u8], at: usize, d: Walked) -> Walked
+fn on_value(line: &[u8], at: usize, d: Cursor) -> Cursor
     requires { ⌜ at + length (now line) < 2 ^ 16 ⌝ }
-    ensures { λ r. ⌜ r ≡ onValue at (lineOf (now (line .entry))) d ⌝ }
+    ensures { λ r. ⌜ Steps d r (onValue at (lineOf (now (line .entry)))) ⌝ }
 {
     if !has_head(line, b"value=") {
         return break_off(d);
@@ -151,9 +160,9 @@ fn on_value(line: &[u8], at: usize, d: Walked) -> Walked
 }
 
 // What is known after the line that begins at `at`.
-fn step_on(line: &[u8], at: usize, d: Walked) -> Walked
+fn step_on(line: &[u8], at: usize, d: Cursor) -> Cursor
     requires { ⌜ at + length (now line) < 2 ^ 16 ⌝ }
-    ensures { λ r. ⌜ r ≡ step (d .next) at (lineOf (now (line .entry))) d ⌝ }
+    ensures { λ r. ⌜ Steps d r (step (d .next) at (lineOf (now (line .entry)))) ⌝ }
 {
     let next = d.next;
     if next == 0 {
@@ -171,22 +180,40 @@ fn step_on(line: &[u8], at: usize, d: Walked) -> Walked
     break_off(d)
 }
 
+// The pair whose value came last.
+fn last_pair(d: Cursor) -> Pair
+    ensures { λ r. ⌜ r ≡ record { code = d .code; key = d .key; value = d .value } ⌝ }
+{
+    let key = d.key;
+    let value = d.value;
+    Pair {
+        code: d.code,
+        key: key,
+        value: value,
+    }
+}
+
 // All lines of an event; it is out of form if it is too long or its last line is not ended.
 pub fn walk_lines(raw: &[u8]) -> Walked
     ensures { λ r. ⌜ r ≡ walked (now (raw .entry)) ⌝ }
 {
     let mut d = start();
+    let mut pairs = no_pairs();
     if wide(Chart::EVENT) < raw.len() {
-        return break_off(d);
+        return together(break_off(d), pairs);
     }
     let mut at = 0;
     while at < raw.len() {
         let end = line_end(raw, at);
         if raw.len() <= end {
-            return break_off(d);
+            return together(break_off(d), pairs);
         }
+        let n = d.count;
         d = step_on(&raw[at..end], at, d);
+        if d.added {
+            pairs[n] = last_pair(d);
+        }
         at = end + 1;
     }
-    d
+    together(d, pairs)
 }

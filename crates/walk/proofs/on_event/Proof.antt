@@ -1,3 +1,5 @@
+use Rattle.parts.specs.Parts.{whole}
+use Rattle.parts.proofs.CodeLaws.{steps-as, no-value}
 use Rattle.walk.proofs.CodeLaws.{not-event, event-good}
 use Rattle.definition.specs.Text.{str}
 use Rattle.parts.specs.Parts.{withKind}
@@ -19,7 +21,7 @@ break-off-requires c κs = tt
 
 returns : tie.Need-returns
 unfolding str
-returns c = c .break-off .ensures ∙ not-event (c .before .before .before .before .before .args .line .now) 0 (c .before .before .before .before .before .args .d) (sym (c .before .before .has-head .ensures) ∙ not-true _ (c .before .if1 .taken))
+returns c = steps-as (c .before .before .before .before .before .args .d) _ _ _ (c .break-off .ensures .0) (λ ps. not-event (c .before .before .before .before .before .args .line .now) 0 (whole (c .before .before .before .before .before .args .d) ps) (sym (c .before .before .has-head .ensures) ∙ not-true _ (c .before .if1 .taken)))
 
 after-head-requires : tie.Need-after-head-requires
 after-head-requires c κs = tt
@@ -29,7 +31,7 @@ kind-of-requires c κs = tt
 
 returns-2 : tie.Need-returns-2
 unfolding str withKind
-returns-2 c = event-good (c .before .before .before .before .before .before .args .line .now) (c .before .before .before .before .before .before .args .d) (c .before .after-head .result .now) (c .kind-of .result) (sym (c .before .before .before .has-head .ensures) ∙ not-false _ (c .before .before .if1 .left)) (c .before .after-head .ensures) (c .kind-of .ensures)
+returns-2 c = record { is = λ ps. event-good (c .before .before .before .before .before .before .args .line .now) (whole (c .before .before .before .before .before .before .args .d) ps) (c .before .after-head .result .now) (c .kind-of .result) (sym (c .before .before .before .has-head .ensures) ∙ not-false _ (c .before .before .if1 .left)) (c .before .after-head .ensures) (c .kind-of .ensures); room = λ e. no-value e }
 
 pub on-event-spec : {M : Type 1} → statement M
 on-event-spec =

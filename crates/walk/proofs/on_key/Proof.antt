@@ -1,3 +1,5 @@
+use Rattle.parts.specs.Parts.{whole}
+use Rattle.parts.proofs.CodeLaws.{steps-as, no-value}
 use Rattle.walk.proofs.CodeLaws.{not-key, key-bad, key-good, head-length, rest-fits}
 use Rattle.definition.specs.Text.{str}
 use Rattle.parts.specs.Parts.{withKey}
@@ -33,7 +35,7 @@ break-off-requires c κs = tt
 
 returns-2 : tie.Need-returns-2
 unfolding str
-returns-2 c = c .break-off .ensures ∙ not-key (c .before .before .before .before .before .before .before .before .args .line .now) (c .before .before .before .before .before .before .before .before .args .at) (c .before .before .before .before .before .before .before .before .args .d) (sym (c .before .before .before .before .before .has-head .ensures) ∙ c .before .before .before .before .if1 .left) (sym (c .before .before .has-head2 .ensures) ∙ not-true _ (c .before .if2 .taken))
+returns-2 c = steps-as (c .before .before .before .before .before .before .before .before .args .d) _ _ _ (c .break-off .ensures .0) (λ ps. not-key (c .before .before .before .before .before .before .before .before .args .line .now) (c .before .before .before .before .before .before .before .before .args .at) (whole (c .before .before .before .before .before .before .before .before .args .d) ps) (sym (c .before .before .before .before .before .has-head .ensures) ∙ c .before .before .before .before .if1 .left) (sym (c .before .before .has-head2 .ensures) ∙ not-true _ (c .before .if2 .taken)))
 
 after-head-requires : tie.Need-after-head-requires
 after-head-requires c κs = tt
@@ -51,14 +53,14 @@ break-off-requires-2 c κs = tt
 
 returns-3 : tie.Need-returns-3
 unfolding str
-returns-3 c = c .break-off2 .ensures ∙ key-bad (c .before .before .before .before .before .before .before .before .before .before .before .before .args .line .now) (c .before .before .before .before .before .before .before .before .before .before .before .before .args .at) (c .before .before .before .before .before .before .before .before .before .before .before .before .args .d) (c .before .before .before .before .after-head .result .now) (c .before .before .before .find-part .result) (sym (c .before .before .before .before .before .before .has-head2 .ensures) ∙ not-false _ (c .before .before .before .before .before .if2 .left)) (c .before .before .before .before .after-head .ensures) (c .before .before .before .find-part .ensures) (not-true _ (c .before .if3 .taken))
+returns-3 c = steps-as (c .before .before .before .before .before .before .before .before .before .before .before .before .args .d) _ _ _ (c .break-off2 .ensures .0) (λ ps. key-bad (c .before .before .before .before .before .before .before .before .before .before .before .before .args .line .now) (c .before .before .before .before .before .before .before .before .before .before .before .before .args .at) (whole (c .before .before .before .before .before .before .before .before .before .before .before .before .args .d) ps) (c .before .before .before .before .after-head .result .now) (c .before .before .before .find-part .result) (sym (c .before .before .before .before .before .before .has-head2 .ensures) ∙ not-false _ (c .before .before .before .before .before .if2 .left)) (c .before .before .before .before .after-head .ensures) (c .before .before .before .find-part .ensures) (not-true _ (c .before .if3 .taken)))
 
 key-of-requires : tie.Need-key-of-requires
 key-of-requires c κs = tt
 
 returns-4 : tie.Need-returns-4
 unfolding str withKey
-returns-4 c = key-good (c .before .before .before .before .before .before .before .before .before .before .before .before .before .args .line .now) (c .before .before .before .before .before .before .before .before .before .before .before .before .before .args .at) (c .before .before .before .before .before .before .before .before .before .before .before .before .before .args .d) (c .before .before .before .before .before .after-head .result .now) (c .before .before .before .before .find-part .result) (sym (c .before .before .before .before .before .before .before .has-head2 .ensures) ∙ not-false _ (c .before .before .before .before .before .before .if2 .left)) (c .before .before .before .before .before .after-head .ensures) (c .before .before .before .before .find-part .ensures) (c .key-of .result) (c .key-of .ensures) (not-false _ (c .before .before .if3 .left))
+returns-4 c = record { is = λ ps. key-good (c .before .before .before .before .before .before .before .before .before .before .before .before .before .args .line .now) (c .before .before .before .before .before .before .before .before .before .before .before .before .before .args .at) (whole (c .before .before .before .before .before .before .before .before .before .before .before .before .before .args .d) ps) (c .before .before .before .before .before .after-head .result .now) (c .before .before .before .before .find-part .result) (sym (c .before .before .before .before .before .before .before .has-head2 .ensures) ∙ not-false _ (c .before .before .before .before .before .before .if2 .left)) (c .before .before .before .before .before .after-head .ensures) (c .before .before .before .before .find-part .ensures) (c .key-of .result) (c .key-of .ensures) (not-false _ (c .before .before .if3 .left)); room = λ e. no-value e }
 
 pub on-key-spec : {M : Type 1} → statement M
 on-key-spec =

@@ -1,3 +1,5 @@
+use Rattle.parts.specs.Parts.{whole}
+use Rattle.parts.proofs.CodeLaws.{steps-as, no-value}
 use Rattle.walk.proofs.CodeLaws.{not-name, name-bad, name-good, head-length, rest-fits}
 use Rattle.definition.specs.Text.{str}
 use Rattle.parts.specs.Parts.{withName}
@@ -20,7 +22,7 @@ break-off-requires c κs = tt
 
 returns : tie.Need-returns
 unfolding str
-returns c = c .break-off .ensures ∙ not-name (c .before .before .before .before .before .args .line .now) (c .before .before .before .before .before .args .at) (c .before .before .before .before .before .args .d) (sym (c .before .before .has-head .ensures) ∙ not-true _ (c .before .if1 .taken))
+returns c = steps-as (c .before .before .before .before .before .args .d) _ _ _ (c .break-off .ensures .0) (λ ps. not-name (c .before .before .before .before .before .args .line .now) (c .before .before .before .before .before .args .at) (whole (c .before .before .before .before .before .args .d) ps) (sym (c .before .before .has-head .ensures) ∙ not-true _ (c .before .if1 .taken)))
 
 after-head-requires : tie.Need-after-head-requires
 after-head-requires c κs = tt
@@ -38,14 +40,14 @@ break-off-requires-2 c κs = tt
 
 returns-2 : tie.Need-returns-2
 unfolding str
-returns-2 c = c .break-off2 .ensures ∙ name-bad (c .before .before .before .before .before .before .before .before .before .args .line .now) (c .before .before .before .before .before .before .before .before .before .args .at) (c .before .before .before .before .before .before .before .before .before .args .d) (c .before .before .before .before .after-head .result .now) (c .before .before .before .find-part .result) (sym (c .before .before .before .before .before .before .has-head .ensures) ∙ not-false _ (c .before .before .before .before .before .if1 .left)) (c .before .before .before .before .after-head .ensures) (c .before .before .before .find-part .ensures) (not-true _ (c .before .if2 .taken))
+returns-2 c = steps-as (c .before .before .before .before .before .before .before .before .before .args .d) _ _ _ (c .break-off2 .ensures .0) (λ ps. name-bad (c .before .before .before .before .before .before .before .before .before .args .line .now) (c .before .before .before .before .before .before .before .before .before .args .at) (whole (c .before .before .before .before .before .before .before .before .before .args .d) ps) (c .before .before .before .before .after-head .result .now) (c .before .before .before .find-part .result) (sym (c .before .before .before .before .before .before .has-head .ensures) ∙ not-false _ (c .before .before .before .before .before .if1 .left)) (c .before .before .before .before .after-head .ensures) (c .before .before .before .find-part .ensures) (not-true _ (c .before .if2 .taken)))
 
 tag-of-requires : tie.Need-tag-of-requires
 tag-of-requires c κs = tt
 
 returns-3 : tie.Need-returns-3
 unfolding str withName
-returns-3 c = name-good (c .before .before .before .before .before .before .before .before .before .before .args .line .now) (c .before .before .before .before .before .before .before .before .before .before .args .at) (c .before .before .before .before .before .before .before .before .before .before .args .d) (c .before .before .before .before .before .after-head .result .now) (c .before .before .before .before .find-part .result) (sym (c .before .before .before .before .before .before .before .has-head .ensures) ∙ not-false _ (c .before .before .before .before .before .before .if1 .left)) (c .before .before .before .before .before .after-head .ensures) (c .before .before .before .before .find-part .ensures) (c .tag-of .result) (c .tag-of .ensures) (not-false _ (c .before .before .if2 .left))
+returns-3 c = record { is = λ ps. name-good (c .before .before .before .before .before .before .before .before .before .before .args .line .now) (c .before .before .before .before .before .before .before .before .before .before .args .at) (whole (c .before .before .before .before .before .before .before .before .before .before .args .d) ps) (c .before .before .before .before .before .after-head .result .now) (c .before .before .before .before .find-part .result) (sym (c .before .before .before .before .before .before .before .has-head .ensures) ∙ not-false _ (c .before .before .before .before .before .before .if1 .left)) (c .before .before .before .before .before .after-head .ensures) (c .before .before .before .before .find-part .ensures) (c .tag-of .result) (c .tag-of .ensures) (not-false _ (c .before .before .if2 .left)); room = λ e. no-value e }
 
 pub on-name-spec : {M : Type 1} → statement M
 on-name-spec =

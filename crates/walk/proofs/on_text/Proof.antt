@@ -1,3 +1,5 @@
+use Rattle.parts.specs.Parts.{whole}
+use Rattle.parts.proofs.CodeLaws.{steps-as, no-value}
 use Rattle.walk.proofs.CodeLaws.{text-bad, text-good, head-length, rest-fits}
 use Rattle.definition.specs.Text.{str}
 use Rattle.parts.specs.Parts.{withText}
@@ -24,11 +26,11 @@ break-off-requires c κs = tt
 
 returns : tie.Need-returns
 unfolding str
-returns c = c .break-off .ensures ∙ text-bad (c .before .before .before .before .before .before .args .line .now) (c .before .before .before .before .before .before .args .at) (c .before .before .before .before .before .before .args .d) (c .before .before .before .before .after-head .result .now) (c .before .before .before .find-part .result) (c .before .before .before .before .before .before .pre .1) (c .before .before .before .before .after-head .ensures) (c .before .before .before .find-part .ensures) (not-true _ (c .before .if1 .taken))
+returns c = steps-as (c .before .before .before .before .before .before .args .d) _ _ _ (c .break-off .ensures .0) (λ ps. text-bad (c .before .before .before .before .before .before .args .line .now) (c .before .before .before .before .before .before .args .at) (whole (c .before .before .before .before .before .before .args .d) ps) (c .before .before .before .before .after-head .result .now) (c .before .before .before .find-part .result) (c .before .before .before .before .before .before .pre .1) (c .before .before .before .before .after-head .ensures) (c .before .before .before .find-part .ensures) (not-true _ (c .before .if1 .taken)))
 
 returns-2 : tie.Need-returns-2
 unfolding str withText
-returns-2 c = text-good (c .before .before .before .before .before .before .args .line .now) (c .before .before .before .before .before .before .args .at) (c .before .before .before .before .before .before .args .d) (c .before .before .before .before .after-head .result .now) (c .before .before .before .find-part .result) (c .before .before .before .before .before .before .pre .1) (c .before .before .before .before .after-head .ensures) (c .before .before .before .find-part .ensures) (not-false _ (c .before .if1 .left))
+returns-2 c = record { is = λ ps. text-good (c .before .before .before .before .before .before .args .line .now) (c .before .before .before .before .before .before .args .at) (whole (c .before .before .before .before .before .before .args .d) ps) (c .before .before .before .before .after-head .result .now) (c .before .before .before .find-part .result) (c .before .before .before .before .before .before .pre .1) (c .before .before .before .before .after-head .ensures) (c .before .before .before .find-part .ensures) (not-false _ (c .before .if1 .left)); room = λ e. no-value e }
 
 pub on-text-spec : {M : Type 1} → statement M
 on-text-spec =

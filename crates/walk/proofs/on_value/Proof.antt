@@ -1,3 +1,5 @@
+use Rattle.parts.specs.Parts.{whole}
+use Rattle.parts.proofs.CodeLaws.{steps-as, no-value}
 use Rattle.walk.proofs.CodeLaws.{not-value, value-bad, value-good, head-length, rest-fits}
 use Rattle.definition.specs.Text.{str}
 use Prim.Native.Nat.{_-_}
@@ -19,7 +21,7 @@ break-off-requires c κs = search needs
 
 returns : tie.Need-returns
 unfolding str
-returns c = c .break-off .ensures ∙ not-value (c .before .before .before .before .before .args .line .now) (c .before .before .before .before .before .args .at) (c .before .before .before .before .before .args .d) (sym (c .before .before .has-head .ensures) ∙ not-true _ (c .before .if1 .taken))
+returns c = steps-as (c .before .before .before .before .before .args .d) _ _ _ (c .break-off .ensures .0) (λ ps. not-value (c .before .before .before .before .before .args .line .now) (c .before .before .before .before .before .args .at) (whole (c .before .before .before .before .before .args .d) ps) (sym (c .before .before .has-head .ensures) ∙ not-true _ (c .before .if1 .taken)))
 
 after-head-requires : tie.Need-after-head-requires
 after-head-requires c κs = search needs
@@ -37,14 +39,14 @@ break-off-requires-2 c κs = search needs
 
 returns-2 : tie.Need-returns-2
 unfolding str
-returns-2 c = c .break-off2 .ensures ∙ value-bad (c .before .before .before .before .before .before .before .before .before .args .line .now) (c .before .before .before .before .before .before .before .before .before .args .at) (c .before .before .before .before .before .before .before .before .before .args .d) (c .before .before .before .before .after-head .result .now) (c .before .before .before .find-part .result) (sym (c .before .before .before .before .before .before .has-head .ensures) ∙ not-false _ (c .before .before .before .before .before .if1 .left)) (c .before .before .before .before .after-head .ensures) (c .before .before .before .find-part .ensures) (not-true _ (c .before .if2 .taken))
+returns-2 c = steps-as (c .before .before .before .before .before .before .before .before .before .args .d) _ _ _ (c .break-off2 .ensures .0) (λ ps. value-bad (c .before .before .before .before .before .before .before .before .before .args .line .now) (c .before .before .before .before .before .before .before .before .before .args .at) (whole (c .before .before .before .before .before .before .before .before .before .args .d) ps) (c .before .before .before .before .after-head .result .now) (c .before .before .before .find-part .result) (sym (c .before .before .before .before .before .before .has-head .ensures) ∙ not-false _ (c .before .before .before .before .before .if1 .left)) (c .before .before .before .before .after-head .ensures) (c .before .before .before .find-part .ensures) (not-true _ (c .before .if2 .taken)))
 
 add-value-requires : tie.Need-add-value-requires
 add-value-requires c κs = search needs
 
 returns-3 : tie.Need-returns-3
 unfolding str
-returns-3 c = c .add-value .ensures ∙ value-good (c .before .before .before .before .before .before .before .before .before .before .args .line .now) (c .before .before .before .before .before .before .before .before .before .before .args .at) (c .before .before .before .before .before .before .before .before .before .before .args .d) (c .before .before .before .before .before .after-head .result .now) (c .before .before .before .before .find-part .result) (sym (c .before .before .before .before .before .before .before .has-head .ensures) ∙ not-false _ (c .before .before .before .before .before .before .if1 .left)) (c .before .before .before .before .before .after-head .ensures) (c .before .before .before .before .find-part .ensures) (not-false _ (c .before .before .if2 .left))
+returns-3 c = steps-as (c .before .before .before .before .before .before .before .before .before .before .args .d) _ _ _ (c .add-value .ensures) (λ ps. value-good (c .before .before .before .before .before .before .before .before .before .before .args .line .now) (c .before .before .before .before .before .before .before .before .before .before .args .at) (whole (c .before .before .before .before .before .before .before .before .before .before .args .d) ps) (c .before .before .before .before .before .after-head .result .now) (c .before .before .before .before .find-part .result) (sym (c .before .before .before .before .before .before .before .has-head .ensures) ∙ not-false _ (c .before .before .before .before .before .before .if1 .left)) (c .before .before .before .before .before .after-head .ensures) (c .before .before .before .before .find-part .ensures) (not-false _ (c .before .before .if2 .left)))
 
 pub on-value-spec : {M : Type 1} → statement M
 on-value-spec =
