@@ -3,7 +3,7 @@ use definition::Position;
 use definition::RegionId;
 use pieces::Piece;
 use pieces::next_piece;
-use reader::Streamed;
+use streams::Streamed;
 
 /// How far the input is read and fed.
 pub struct Reading {
