@@ -17,8 +17,7 @@ fn print_refusal(number: u32, event: u64) {
     print(&out[..n]);
 }
 
-// The rows of a chart within the limits need 222,000 bytes at most: names of 65,535 bytes in all, each escaped; 4,096 members; some 90 bytes for each state
-// and each transition beside these.
+// A chart within the limits needs some 201,600 bytes at most (docs/DECISIONS.md, 'Program').
 fn print_chart(
     charts: &[[u32; 24]],
     states: &[[u32; 24]],

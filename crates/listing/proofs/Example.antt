@@ -7,19 +7,19 @@ use Rattle.definition.specs.Rows.{Table, cellAt, textAt, listed, valuesOf}
 use Rattle.printing.specs.Lines.{escape, escaped, gap, spacedFrom, spaced, line, numbersOf}
 use Rattle.listing.specs.Listing.{nameOf, stateLines, statesFrom, typeWord, transitionLines, transitionsFrom, listing}
 
-charts : Table
+pub charts : Table
 charts = (1 ∷ []) ∷ []
 
-states : Table
+pub states : Table
 states = (1 ∷ 5 ∷ 1 ∷ 1 ∷ 0 ∷ []) ∷ (6 ∷ 1 ∷ 2 ∷ 0 ∷ 1 ∷ []) ∷ []
 
-transitions : Table
+pub transitions : Table
 transitions = (1 ∷ 0 ∷ 1 ∷ 0 ∷ 0 ∷ 0 ∷ []) ∷ []
 
-members : Table
+pub members : Table
 members = (1 ∷ 1 ∷ 2 ∷ []) ∷ (6 ∷ 1 ∷ 2 ∷ []) ∷ []
 
-printed : List ℕ
+pub printed : List ℕ
 unfolding str
 printed =
     str "answer=0\nroot=1\nstates=2\ntransitions=1\nstate=1\nname=__id1\nparent=0\ninitial=1\ndoc=1\nchildren=2\n"
