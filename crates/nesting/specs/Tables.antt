@@ -1,28 +1,18 @@
 -- The constant tables as they follow from the definition's lists.
-use Prim.Native.Nat.{ℕ, _-_}
-use mathlib.Core.Bool.{true, false}
+use Prim.Native.Nat.{ℕ, _+_, _-_, _*_, _%_}
+use mathlib.Core.Bool.{Bool, true, false}
 use mathlib.Core.List.{List, [], _∷_, _++_, map}
 use lib.ListN.{length, getD, replicate}
 use lib.Dec.{eqb}
-use Rattle.definition.specs.Text.{bytesAt}
-use Rattle.definition.specs.Elements.{elementNames, keyNames}
 use Rattle.definition.specs.Nesting.{Below, nesting}
 
--- A name in twelve bytes: its length, the name, spaces.
-unfoldable pub nameRow : List ℕ → List ℕ
-nameRow w = length w ∷ w ++ replicate (11 - length w) 32
+-- A number below 128 by a name's length, second and last byte.
+unfoldable pub mark : List ℕ → ℕ
+mark w = (length w + getD w (length w - 1) 0 * 5 + getD w 1 0) % 128
 
-unfoldable pub rowName : List ℕ → List ℕ
-unfolding bytesAt
-rowName r = bytesAt r (record { off = 1; len = getD r 0 0 })
-
-unfoldable pub elementRows : List (List ℕ)
-unfolding nameRow elementNames
-elementRows = map nameRow elementNames
-
-unfoldable pub keyRows : List (List ℕ)
-unfolding nameRow keyNames
-keyRows = map nameRow keyNames
+unfoldable pub numberIf : Bool → ℕ → ℕ
+numberIf true n = n
+numberIf false n = 0
 
 -- The parents of each element that has some, from `state` on.
 unfoldable pub parentsOf : List (List ℕ)

@@ -1,29 +1,32 @@
-use Rattle.definition.specs.Text.{str}
-use Rattle.definition.specs.Elements.{keyNames}
-use Rattle.nesting.specs.Tables.{nameRow, keyRows}
-use Rattle.nesting.proofs.Laws.{key-is, key-small}
-use Prim.Native.Nat.{_-_}
-use mathlib.Core.Path.{_≡_, refl}
 use native.Mathlib.Omega.{arith}
+use Rattle.nesting.proofs.Marks.{key-unsized}
 use borrow.Author.Needs.{needs}
 use Rattle.nesting.proofs.key_of.Statement.{statement}
 use Rattle.nesting.proofs.key_of.Tie as tie
+use Rattle.nesting.proofs.key_of.Reads as reads
+use Rattle.nesting.proofs.key_of.Lts as lts
+use Rattle.nesting.proofs.key_marked.Reads as key-marked-reads
+use Rattle.nesting.proofs.mark_of.Reads as mark-of-reads
 
-slice-aggregate-number-in : tie.Need-slice-aggregate-number-in
-slice-aggregate-number-in c = search needs
-
-number-in-requires : tie.Need-number-in-requires
-number-in-requires c κs = search needs
-
-cast-result : tie.Need-cast-result
-unfolding keyRows nameRow keyNames str
-cast-result c =
-    let e : c .number-in .result ≡ _ = key-is (c .number-in .result) _ (c .before .before .before .args .key .now) (c .number-in .ensures) refl in
-    omega (arith, e, key-small (c .before .before .before .args .key .now))
-
+-- src/lib.rt:314:9
 returns : tie.Need-returns
-unfolding keyRows nameRow keyNames str
-returns c = key-is (c .number-in .result) _ (c .before .before .before .args .key .now) (c .number-in .ensures) refl
+returns c = key-unsized (c .before .before .args .key .now) (λ z. omega (arith, z .0, c .if1 .taken))
+
+-- src/lib.rt:317:9
+returns-2 : tie.Need-returns-2
+returns-2 c = key-unsized (c .before .before .before .args .key .now) (λ z. omega (arith, z .1, c .if2 .taken))
+
+-- src/lib.rt:319:16
+mark-of-requires : tie.Need-mark-of-requires
+mark-of-requires c κs = search needs
+
+-- src/lib.rt:319:5
+key-marked-requires : tie.Need-key-marked-requires
+key-marked-requires c κs = search needs
+
+-- src/lib.rt:310:1
+returns-3 : tie.Need-returns-3
+returns-3 c = search needs
 
 pub key-of-spec : {M : Type 1} → statement M
-key-of-spec = tie.close (tie.spec slice-aggregate-number-in number-in-requires cast-result returns)
+key-of-spec = tie.close (tie.spec returns returns-2 mark-of-requires key-marked-requires returns-3)

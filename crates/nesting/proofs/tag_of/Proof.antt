@@ -1,29 +1,32 @@
-use Rattle.definition.specs.Text.{str}
-use Rattle.definition.specs.Elements.{elementNames}
-use Rattle.nesting.specs.Tables.{nameRow, elementRows}
-use Rattle.nesting.proofs.Laws.{tag-is, tag-small}
-use Prim.Native.Nat.{_-_}
-use mathlib.Core.Path.{_≡_, refl}
 use native.Mathlib.Omega.{arith}
+use Rattle.nesting.proofs.Marks.{tag-unsized}
 use borrow.Author.Needs.{needs}
 use Rattle.nesting.proofs.tag_of.Statement.{statement}
 use Rattle.nesting.proofs.tag_of.Tie as tie
+use Rattle.nesting.proofs.tag_of.Reads as reads
+use Rattle.nesting.proofs.tag_of.Lts as lts
+use Rattle.nesting.proofs.mark_of.Reads as mark-of-reads
+use Rattle.nesting.proofs.tag_marked.Reads as tag-marked-reads
 
-slice-aggregate-number-in : tie.Need-slice-aggregate-number-in
-slice-aggregate-number-in c = search needs
-
-number-in-requires : tie.Need-number-in-requires
-number-in-requires c κs = search needs
-
-cast-result : tie.Need-cast-result
-unfolding elementRows nameRow elementNames str
-cast-result c =
-    let e : c .number-in .result ≡ _ = tag-is (c .number-in .result) _ (c .before .before .before .args .name .now) (c .number-in .ensures) refl in
-    omega (arith, e, tag-small (c .before .before .before .args .name .now))
-
+-- src/lib.rt:263:9
 returns : tie.Need-returns
-unfolding elementRows nameRow elementNames str
-returns c = tag-is (c .number-in .result) _ (c .before .before .before .args .name .now) (c .number-in .ensures) refl
+returns c = tag-unsized (c .before .before .args .name .now) (λ z. omega (arith, z .0, c .if1 .taken))
+
+-- src/lib.rt:266:9
+returns-2 : tie.Need-returns-2
+returns-2 c = tag-unsized (c .before .before .before .args .name .now) (λ z. omega (arith, z .1, c .if2 .taken))
+
+-- src/lib.rt:268:16
+mark-of-requires : tie.Need-mark-of-requires
+mark-of-requires c κs = search needs
+
+-- src/lib.rt:268:5
+tag-marked-requires : tie.Need-tag-marked-requires
+tag-marked-requires c κs = search needs
+
+-- src/lib.rt:259:1
+returns-3 : tie.Need-returns-3
+returns-3 c = search needs
 
 pub tag-of-spec : {M : Type 1} → statement M
-tag-of-spec = tie.close (tie.spec slice-aggregate-number-in number-in-requires cast-result returns)
+tag-of-spec = tie.close (tie.spec returns returns-2 mark-of-requires tag-marked-requires returns-3)
