@@ -1,4 +1,7 @@
 // Rows written into lent tables as a plan says, those without texts of the event: regions, members named one by one, what is open. n rows are in use.
+use definition::StateId;
+use definition::TransitionId;
+use opens::opened;
 use plan::MemberPlan;
 use plan::OpenPlan;
 use plan::OpenRegionPlan;
@@ -101,7 +104,8 @@ pub fn add_two(members: &mut [[u32; 8]], n: usize, one: MemberPlan, two: MemberP
 fn opened_row(tag: u32, length: u32, p: OpenPlan) -> [u32; 8]
     ensures { λ r. ⌜ r ≡ openedRow tag length p ⌝ }
 {
-    [tag, p.state, p.transition, length, 0, 0, 0, 0]
+    let inside = opened(StateId(p.state), TransitionId(p.transition), tag);
+    [inside.tag, inside.state.0, inside.transition.0, length, 0, 0, 0, 0]
 }
 
 // moves 0: one more is open. Else no row is written: the count alone says what is open.
