@@ -12,9 +12,9 @@ use Rattle.definition.specs.Rows.{Row, Table, table, num, rowOf, lastOf, Number
 use Rattle.definition.specs.Actions.{lastWith, lastEntry, Walk, meets, noIf, elseWalk, walkFrom}
 use Rattle.plan.specs.declared.Closing.{Closing}
 use Rattle.plan.specs.declared.Walked.{Walked}
-use Rattle.plan.specs.Seen.{closes, walkedAs, walkIn}
+use Rattle.plan.specs.Seen.{stateId, transitionId, closes, walkedAs, walkIn}
 use Rattle.see.specs.Scans.{walkOver}
-use Rattle.see.specs.View.{walkAt, walkBy, walkAfter, newFirst, defaultFor}
+use Rattle.see.specs.View.{walkAt, walkBy, walkAfter, newFirst, defaultFor, insideOf}
 
 no-number : (c : ℕ) → num [] c ≡ 0
 no-number zero = refl
@@ -29,15 +29,23 @@ unfolding lastOf
 last-snoc d [] r = refl
 last-snoc d (x ∷ xs) r = last-snoc x xs r
 
-pub inside-none : (t : Table) (c : ℕ) → length t ≡ 0 → 0 ≡ num (lastOf [] t) c
+none-inside : (t : Table) (c : ℕ) → length t ≡ 0 → 0 ≡ num (lastOf [] t) c
 unfolding lastOf
-inside-none [] c e = sym (no-number c)
-inside-none (r ∷ t) c e = absurd (omega arith)
+none-inside [] c e = sym (no-number c)
+none-inside (r ∷ t) c e = absurd (omega arith)
 
-pub inside-some : (t : Table) (j c : ℕ) → length t ≡ suc j → num (getD t j []) c ≡ num (lastOf [] t) c
-inside-some t j c e =
+some-inside : (t : Table) (j c : ℕ) → length t ≡ suc j → num (getD t j []) c ≡ num (lastOf [] t) c
+some-inside t j c e =
     ap (λ (r : Row). num r c) (
     sym (ap (lastOf []) (sym (take-length t) ∙ ap (λ (m : ℕ). take m t) e ∙ take-suc t j [] (omega arith)) ∙ last-snoc [] (take j t) (getD t j [])))
+
+pub inside-none : (t : Table) → length t ≡ 0 → record { state = stateId 0; transition = transitionId 0; tag = 0 } ≡ insideOf t
+unfolding insideOf
+inside-none t e i = record { state = stateId (none-inside t 1 e i); transition = transitionId (none-inside t 2 e i); tag = none-inside t 0 e i }
+
+pub inside-some : (t : Table) (j : ℕ) → length t ≡ suc j → record { state = stateId (num (getD t j []) 1); transition = transitionId (num (getD t j []) 2); tag = num (getD t j []) 0 } ≡ insideOf t
+unfolding insideOf
+inside-some t j e i = record { state = stateId (some-inside t j 1 e i); transition = transitionId (some-inside t j 2 e i); tag = some-inside t j 0 e i }
 
 pub closes-if : (g : ℕ) → eqb g 12 || eqb g 13 ≡ true → 24 ≡ closes g
 unfolding closes

@@ -7,24 +7,25 @@ use lib.Dec.{eqb}
 use Rattle.definition.specs.declared.Position.{Position}
 use Rattle.definition.specs.declared.StateId.{StateId}
 use Rattle.definition.specs.declared.TransitionId.{TransitionId}
-use Rattle.definition.specs.Rows.{Table, num, rowOf, lastOf}
+use Rattle.definition.specs.Rows.{Table, num, rowOf}
 use Rattle.definition.specs.Actions.{lastWith, placeOfNumber}
 use Rattle.plan.specs.declared.Closing.{Closing}
 use Rattle.plan.specs.declared.Walked.{Walked}
 use Rattle.plan.specs.Seen.{stateId, transitionId, closes, closedAt}
+use Rattle.opens.specs.declared.Open.{Open}
 use Rattle.see.specs.declared.Family.{Family}
 use Rattle.see.specs.Masked.{isElse, isPart, isInvoked, numberIf, walkedIf}
-use Rattle.see.specs.View.{walkAfter, familyOf, seenBy}
+use Rattle.see.specs.View.{walkAfter, familyOf, insideOf, seenBy}
 
-pub seen-told : (g o : ℕ) (p : Position) (c s t e i m w r : Table) {state transition count cl last parent kind inv place don : ℕ} {root : StateId} {ini beg own : TransitionId} {x : Closing} {wk : Walked} {f : Family}
-    → state ≡ num (lastOf [] w) 1 → transition ≡ num (lastOf [] w) 2 → root ≡ stateId (num (getD c 0 []) 0) → count ≡ length r → cl ≡ closes g → x ≡ closedAt cl r count (p .current .0)
-    → last ≡ numberIf (isPart g) (lastWith 0 (p .current .0) 0 0 e) → f ≡ familyOf g m state (root .0) o → parent ≡ num (lastOf [] w) 0 → wk ≡ walkedIf (isElse g) (walkAfter x (p .regions) e)
-    → kind ≡ num (rowOf e last) 1 → inv ≡ numberIf (isInvoked g) (lastWith 0 state 0 0 i) → place ≡ numberIf (eqb g 16) (placeOfNumber t transition)
-    → ini ≡ transitionId (num (rowOf s state) 3) → don ≡ num (rowOf s state) 8 → beg ≡ transitionId (num (rowOf s (root .0)) 3) → own ≡ transitionId (num (rowOf s o) 3)
+pub seen-told : (g o : ℕ) (p : Position) (c s t e i m w r : Table) {element : Open} {count cl last kind inv place don : ℕ} {root : StateId} {ini beg own : TransitionId} {x : Closing} {wk : Walked} {f : Family}
+    → element ≡ insideOf w → root ≡ stateId (num (getD c 0 []) 0) → count ≡ length r → cl ≡ closes g → x ≡ closedAt cl r count (p .current .0)
+    → last ≡ numberIf (isPart g) (lastWith 0 (p .current .0) 0 0 e) → f ≡ familyOf g m (element .state .0) (root .0) o → wk ≡ walkedIf (isElse g) (walkAfter x (p .regions) e)
+    → kind ≡ num (rowOf e last) 1 → inv ≡ numberIf (isInvoked g) (lastWith 0 (element .state .0) 0 0 i) → place ≡ numberIf (eqb g 16) (placeOfNumber t (element .transition .0))
+    → ini ≡ transitionId (num (rowOf s (element .state .0)) 3) → don ≡ num (rowOf s (element .state .0)) 8 → beg ≡ transitionId (num (rowOf s (root .0)) 3) → own ≡ transitionId (num (rowOf s o) 3)
     → record {
-      state = stateId state;
-      transition = transitionId transition;
-      parent = parent;
+      state = element .state;
+      transition = element .transition;
+      parent = element .tag;
       current = p .current;
       ids = p .ids;
       docs = p .docs;
@@ -49,5 +50,5 @@ pub seen-told : (g o : ℕ) (p : Position) (c s t e i m w r : Table) {state tran
       own = own;
       eldest = f .eldest;
     } ≡ seenBy g o p c s t e i m w r
-unfolding seenBy
-seen-told g o p c s t e i m w r e₁ e₂ e₃ e₀ e₄ e₅ e₆ e₇ e₈ e₉ a₁ a₂ a₃ a₄ a₅ a₆ a₇ = rw (a₇, a₆, a₅, a₄, a₃, a₂, a₁, e₉, e₈, e₇, e₆, e₅, e₄, e₀, e₃, e₂, e₁)
+unfolding seenBy insideOf
+seen-told g o p c s t e i m w r e₁ e₂ e₃ e₄ e₅ e₆ e₇ e₈ a₁ a₂ a₃ a₄ a₅ a₆ a₇ = rw (a₇, a₆, a₅, a₄, a₃, a₂, a₁, e₈, e₇, e₆, e₅, e₄, e₃, e₂, e₁)

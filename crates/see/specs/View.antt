@@ -10,6 +10,7 @@ use Rattle.definition.specs.Rows.{Table, chart, state, entry, invoke, opened, n
 use Rattle.definition.specs.Actions.{lastWith, placeOfNumber}
 use Rattle.plan.specs.Seen.{stateId, transitionId, closes, closedAt, firstChildOr}
 use Rattle.plan.specs.declared.Seen.{Seen}
+use Rattle.opens.specs.declared.Open.{Open}
 use Rattle.see.specs.declared.Family.{Family}
 use Rattle.see.specs.Masked.{isElse, isPart, isInvoked, isChildish, numberIf, boolIf, walkedIf}
 use Rattle.plan.specs.declared.Closing.{Closing}
@@ -52,6 +53,11 @@ familyOf g m s r o =
 -- The tables whose rows are told by their places have fewer than 2 to the 32.
 abbrev pub Short : Table → Table → Table → Table → Type 0
 Short t e i r = (length t < 2 ^ 32) × (length e < 2 ^ 32) × (length i < 2 ^ 32) × (length r < 2 ^ 32)
+
+-- Of the innermost open element, the last row in use; 0 where nothing is open.
+unfoldable pub insideOf : Table → Open
+unfolding lastOf
+insideOf w = record { state = stateId (num (lastOf [] w) (opened .state)); transition = transitionId (num (lastOf [] w) (opened .transition)); tag = num (lastOf [] w) (opened .tag) }
 
 -- As the code reads it: of the chart, states, transitions, entries, invokes, members, open elements, open regions.
 unfoldable pub seenBy : ℕ → ℕ → Position → Table → Table → Table → Table → Table → Table → Table → Table → Seen

@@ -3,6 +3,7 @@ use definition::Position;
 use definition::RegionId;
 use definition::StateId;
 use definition::TransitionId;
+use opens::Open;
 use plan::Closing;
 use plan::EntryKind;
 use plan::ListKind;
@@ -17,12 +18,12 @@ ghost use mathlib.Core.List.{[]};
 ghost use Prim.Native.Nat.{_<_, _≤_, _^_};
 ghost use lib.ListN.{length, getD};
 ghost use lib.Dec.{eqb};
-ghost use Rattle.definition.specs.Rows.{num, rowOf, lastOf};
+ghost use Rattle.definition.specs.Rows.{num, rowOf};
 ghost use Rattle.definition.specs.Actions.{lastWith, placeOfNumber};
 ghost use Rattle.plan.specs.Seen.{closes, closedAt, firstChildOr, stateId, transitionId};
 ghost use Rattle.see.specs.Scans.{walkOver, isChildIn};
 ghost use Rattle.see.specs.Masked.{numberIf, boolIf, walkedIf, isElse, isPart, isInvoked, isChildish};
-ghost use Rattle.see.specs.View.{walkAfter, defaultFor, familyOf, seenBy, Short};
+ghost use Rattle.see.specs.View.{walkAfter, defaultFor, familyOf, insideOf, seenBy, Short};
 
 /// Columns that are read, by table.
 pub struct Column {}
@@ -69,15 +70,19 @@ fn root_of(chart: &[[u32; 24]]) -> StateId
     StateId(chart[0][Column::CHART_ROOT])
 }
 
-/// A column of the innermost open element; 0 where nothing is open.
-fn innermost(opened: &[[u32; 8]], c: usize) -> u32
-    requires { ⌜ c < 8 ⌝ }
-    ensures { λ r. ⌜ r ≡ num (lastOf [] (now (opened .entry))) c ⌝ }
+/// The record of the innermost open element.
+fn inside(opened: &[[u32; 8]]) -> Open
+    ensures { λ r. ⌜ r ≡ insideOf (now (opened .entry)) ⌝ }
 {
     if opened.len() == 0 {
-        return 0;
+        return opens::outside();
     }
-    opened[opened.len() - 1][c]
+    let last = opened.len() - 1;
+    opens::opened(
+        StateId(opened[last][Column::OPENED_STATE]),
+        TransitionId(opened[last][Column::OPENED_TRANSITION]),
+        opened[last][Column::OPENED_TAG],
+    )
 }
 
 /// What an entry is; 0 where there is no such row.
@@ -354,8 +359,9 @@ pub fn see(
     requires { ⌜ Short (now transitions) (now entries) (now invokes) (now open_regions) ⌝ }
     ensures { λ r. ⌜ r ≡ seenBy tag (own .0) position (now (chart .entry)) (now (states .entry)) (now (transitions .entry)) (now (entries .entry)) (now (invokes .entry)) (now (members .entry)) (now (opened .entry)) (now (open_regions .entry)) ⌝ }
 {
-    let state = StateId(innermost(opened, Column::OPENED_STATE));
-    let transition = TransitionId(innermost(opened, Column::OPENED_TRANSITION));
+    let element = inside(opened);
+    let state = element.state;
+    let transition = element.transition;
     let root = root_of(chart);
     let current = position.current;
     let open = open_regions.len() as u32;
@@ -368,7 +374,7 @@ pub fn see(
     Seen {
         state: state,
         transition: transition,
-        parent: innermost(opened, Column::OPENED_TAG),
+        parent: element.tag,
         current: current,
         ids: position.ids,
         docs: position.docs,

@@ -105,7 +105,16 @@ fn opened_row(tag: u32, length: u32, p: OpenPlan) -> [u32; 8]
     ensures { λ r. ⌜ r ≡ openedRow tag length p ⌝ }
 {
     let inside = opened(StateId(p.state), TransitionId(p.transition), tag);
-    [inside.tag, inside.state.0, inside.transition.0, length, 0, 0, 0, 0]
+    [
+        inside.tag,
+        inside.state.0,
+        inside.transition.0,
+        length,
+        0,
+        0,
+        0,
+        0,
+    ]
 }
 
 // moves 0: one more is open. Else no row is written: the count alone says what is open.
