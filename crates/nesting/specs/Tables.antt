@@ -1,18 +1,10 @@
 -- The constant tables as they follow from the definition's lists.
-use Prim.Native.Nat.{ℕ, _+_, _-_, _*_, _%_}
-use mathlib.Core.Bool.{Bool, true, false}
+use Prim.Native.Nat.{ℕ, _-_}
+use mathlib.Core.Bool.{true, false}
 use mathlib.Core.List.{List, [], _∷_, _++_, map}
 use lib.ListN.{length, getD, replicate}
 use lib.Dec.{eqb}
 use Rattle.definition.specs.Nesting.{Below, nesting}
-
--- A number below 128 by a name's length, second and last byte.
-unfoldable pub mark : List ℕ → ℕ
-mark w = (length w + getD w (length w - 1) 0 * 5 + getD w 1 0) % 128
-
-unfoldable pub numberIf : Bool → ℕ → ℕ
-numberIf true n = n
-numberIf false n = 0
 
 -- The parents of each element that has some, from `state` on.
 unfoldable pub parentsOf : List (List ℕ)

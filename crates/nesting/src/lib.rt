@@ -2,13 +2,12 @@
 use definition::StateId;
 ghost use mathlib.Core.Path.{_≡_};
 ghost use mathlib.Core.List.{[]};
-ghost use Prim.Native.Nat.{_<_, _≤_};
-ghost use lib.ListN.{length, getD};
-ghost use Rattle.definition.specs.Text.{same};
-ghost use Rattle.definition.specs.Elements.{among, tagOf, keyOf, holdsText, namesState};
+ghost use Prim.Native.Nat.{_<_};
+ghost use lib.ListN.{getD};
+ghost use Rattle.definition.specs.Elements.{among, holdsText, namesState};
 ghost use Rattle.definition.specs.Nesting.{parentAllowed};
 ghost use Rattle.nesting.specs.Ids.{rowOf, root};
-ghost use Rattle.nesting.specs.Tables.{mark, numberIf, parentRows, listed};
+ghost use Rattle.nesting.specs.Tables.{parentRows, listed};
 
 /// Kinds of event: `open`, `empty`, `whole`, `end`.
 pub struct Kind {}
@@ -195,135 +194,6 @@ pub fn root_row() -> usize
     ensures { λ r. ⌜ r ≡ rowOf root ⌝ }
 {
     state_row(StateId(1))
-}
-
-fn byte(x: u8) -> usize
-    ensures { λ r. ⌜ r ≡ x ⌝ }
-    ensures { λ r. ⌜ r < 256 ⌝ }
-{
-    x as usize
-}
-
-// A number below 128 that tells all known names apart: by its length, its second and its last byte.
-fn mark_of(name: &[u8]) -> u32
-    requires { ⌜ (2 ≤ length (now name)) × (length (now name) ≤ 11) ⌝ }
-    ensures { λ r. ⌜ r ≡ mark (now (name .entry)) ⌝ }
-{
-    let n = name.len();
-    let second = byte(name[1]);
-    let last = byte(name[n - 1]);
-    ((n + last * 5 + second) % 128) as u32
-}
-
-// A name's number, if it is the known one.
-fn only(known: &[u8], name: &[u8], number: u32) -> u32
-    ensures { λ r. ⌜ r ≡ numberIf (same (now (known .entry)) (now (name .entry))) number ⌝ }
-{
-    if text::same(known, name) {
-        return number;
-    }
-    0
-}
-
-// Elements by their marks, in the order of their numbers.
-fn tag_marked(m: u32, name: &[u8]) -> u32
-    requires { ⌜ m ≡ mark (now name) ⌝ }
-    ensures { λ r. ⌜ r ≡ tagOf (now (name .entry)) ⌝ }
-{
-    match m {
-        4 => only(b"scxml", name, 1),
-        114 => only(b"state", name, 2),
-        5 => only(b"parallel", name, 3),
-        6 => only(b"datamodel", name, 4),
-        10 => only(b"final", name, 5),
-        77 => only(b"history", name, 6),
-        17 => only(b"initial", name, 7),
-        109 => only(b"invoke", name, 8),
-        74 => only(b"data", name, 9),
-        92 => only(b"donedata", name, 10),
-        106 => only(b"finalize", name, 11),
-        105 => only(b"else", name, 12),
-        112 => only(b"elseif", name, 13),
-        7 => only(b"param", name, 14),
-        58 => only(b"content", name, 15),
-        34 => only(b"transition", name, 16),
-        82 => only(b"onentry", name, 17),
-        56 => only(b"onexit", name, 18),
-        93 => only(b"send", name, 19),
-        95 => only(b"raise", name, 20),
-        3 => only(b"cancel", name, 21),
-        117 => only(b"log", name, 22),
-        31 => only(b"assign", name, 23),
-        102 => only(b"if", name, 24),
-        126 => only(b"foreach", name, 25),
-        45 => only(b"script", name, 26),
-        110 => only(b"include", name, 27),
-        _ => 0,
-    }
-}
-
-// An element's number, or 0 where the name is none of them.
-pub fn tag_of(name: &[u8]) -> u32
-    ensures { λ r. ⌜ r ≡ tagOf (now (name .entry)) ⌝ }
-{
-    if name.len() < 2 {
-        return 0;
-    }
-    if 11 < name.len() {
-        return 0;
-    }
-    tag_marked(mark_of(name), name)
-}
-
-// Keys by their marks, in the order of their numbers.
-fn key_marked(m: u32, key: &[u8]) -> u32
-    requires { ⌜ m ≡ mark (now key) ⌝ }
-    ensures { λ r. ⌜ r ≡ keyOf (now (key .entry)) ⌝ }
-{
-    match m {
-        90 => only(b"id", key, 1),
-        17 => only(b"initial", key, 2),
-        94 => only(b"name", key, 3),
-        6 => only(b"datamodel", key, 4),
-        115 => only(b"binding", key, 5),
-        18 => only(b"version", key, 6),
-        118 => only(b"type", key, 7),
-        59 => only(b"typeexpr", key, 8),
-        100 => only(b"src", key, 9),
-        51 => only(b"srcexpr", key, 10),
-        20 => only(b"idlocation", key, 11),
-        45 => only(b"namelist", key, 12),
-        116 => only(b"autoforward", key, 13),
-        63 => only(b"event", key, 14),
-        57 => only(b"eventexpr", key, 15),
-        103 => only(b"cond", key, 16),
-        43 => only(b"target", key, 17),
-        37 => only(b"targetexpr", key, 18),
-        54 => only(b"expr", key, 19),
-        84 => only(b"array", key, 20),
-        25 => only(b"item", key, 21),
-        75 => only(b"index", key, 22),
-        95 => only(b"sendid", key, 23),
-        41 => only(b"sendidexpr", key, 24),
-        71 => only(b"delay", key, 25),
-        40 => only(b"delayexpr", key, 26),
-        29 => only(b"location", key, 27),
-        2 => only(b"label", key, 28),
-        _ => 0,
-    }
-}
-
-// A key's number, or 0 where the key is none of them.
-pub fn key_of(key: &[u8]) -> u32
-    ensures { λ r. ⌜ r ≡ keyOf (now (key .entry)) ⌝ }
-{
-    if key.len() < 2 {
-        return 0;
-    }
-    if 11 < key.len() {
-        return 0;
-    }
-    key_marked(mark_of(key), key)
 }
 
 fn number(x: u8) -> u32

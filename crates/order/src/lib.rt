@@ -1,7 +1,7 @@
 // Question 2 beside the columns: numbers that rise, names that are distinct, open elements.
 use columns::Known;
 use definition::Chart;
-use nesting::tag_of;
+use elements::tag_of;
 use rows::index;
 use rows::text_from;
 use text::same;

@@ -1,11 +1,11 @@
 // One walk over an event's lines: each part found, measured and told by its number, or the event out of form.
 use definition::Chart;
+use elements::tag_of;
+use keys::key_of;
 use lines::after_head;
 use lines::has_head;
 use lines::line_end;
 use lines::scan_line;
-use nesting::key_of;
-use nesting::tag_of;
 use parts::Cursor;
 use parts::Pair;
 use parts::Part;

@@ -4,14 +4,14 @@ use mathlib.Core.List.{[], _∷_}
 use native.Mathlib.Omega.{arith}
 use Rattle.definition.specs.Text.{str}
 use Rattle.definition.specs.Elements.{keyNames}
-use Rattle.nesting.specs.Tables.{mark}
-use Rattle.nesting.proofs.Marks.{alone, covered, NotAny, key-marked-by, key-unmarked}
+use Rattle.marks.specs.Marks.{mark}
+use Rattle.marks.proofs.Marks.{alone, covered, NotAny, key-marked-by, key-unmarked}
 use borrow.Author.Needs.{needs}
-use Rattle.nesting.proofs.key_marked.Statement.{statement}
-use Rattle.nesting.proofs.key_marked.Tie as tie
-use Rattle.nesting.proofs.key_marked.Reads as reads
-use Rattle.nesting.proofs.key_marked.Lts as lts
-use Rattle.nesting.proofs.only.Reads as only-reads
+use Rattle.keys.proofs.key_marked.Statement.{statement}
+use Rattle.keys.proofs.key_marked.Tie as tie
+use Rattle.keys.proofs.key_marked.Reads as reads
+use Rattle.keys.proofs.key_marked.Lts as lts
+use Rattle.marks.proofs.only.Reads as only-reads
 
 -- src/lib.rt:277:20
 slice-aggregate-only : tie.Need-slice-aggregate-only

@@ -4,14 +4,14 @@ use mathlib.Core.List.{[], _∷_}
 use native.Mathlib.Omega.{arith}
 use Rattle.definition.specs.Text.{str}
 use Rattle.definition.specs.Elements.{elementNames}
-use Rattle.nesting.specs.Tables.{mark}
-use Rattle.nesting.proofs.Marks.{alone, covered, NotAny, tag-marked-by, tag-unmarked}
+use Rattle.marks.specs.Marks.{mark}
+use Rattle.marks.proofs.Marks.{alone, covered, NotAny, tag-marked-by, tag-unmarked}
 use borrow.Author.Needs.{needs}
-use Rattle.nesting.proofs.tag_marked.Statement.{statement}
-use Rattle.nesting.proofs.tag_marked.Tie as tie
-use Rattle.nesting.proofs.tag_marked.Reads as reads
-use Rattle.nesting.proofs.tag_marked.Lts as lts
-use Rattle.nesting.proofs.only.Reads as only-reads
+use Rattle.elements.proofs.tag_marked.Statement.{statement}
+use Rattle.elements.proofs.tag_marked.Tie as tie
+use Rattle.elements.proofs.tag_marked.Reads as reads
+use Rattle.elements.proofs.tag_marked.Lts as lts
+use Rattle.marks.proofs.only.Reads as only-reads
 
 -- src/lib.rt:227:19
 slice-aggregate-only : tie.Need-slice-aggregate-only

@@ -1,10 +1,10 @@
 use mathlib.Core.Path.{sym, _∙_}
-use Rattle.nesting.proofs.Marks.{is-only, not-only}
+use Rattle.marks.proofs.Marks.{is-only, not-only}
 use borrow.Author.Needs.{needs}
-use Rattle.nesting.proofs.only.Statement.{statement}
-use Rattle.nesting.proofs.only.Tie as tie
-use Rattle.nesting.proofs.only.Reads as reads
-use Rattle.nesting.proofs.only.Lts as lts
+use Rattle.marks.proofs.only.Statement.{statement}
+use Rattle.marks.proofs.only.Tie as tie
+use Rattle.marks.proofs.only.Reads as reads
+use Rattle.marks.proofs.only.Lts as lts
 use Rattle.text.proofs.same.Reads as same-reads
 
 -- src/lib.rt:215:8

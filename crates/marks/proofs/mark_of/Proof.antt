@@ -1,13 +1,13 @@
 use Prim.Native.Nat.{ℕ, _+_, _*_, _%_}
 use mathlib.Core.Path.{ap₂}
 use lib.ListN.{length}
-use Rattle.nesting.specs.Tables.{mark}
+use Rattle.marks.specs.Marks.{mark}
 use borrow.Author.Needs.{needs}
-use Rattle.nesting.proofs.mark_of.Statement.{statement}
-use Rattle.nesting.proofs.mark_of.Tie as tie
-use Rattle.nesting.proofs.mark_of.Reads as reads
-use Rattle.nesting.proofs.mark_of.Lts as lts
-use Rattle.nesting.proofs.byte.Reads as byte-reads
+use Rattle.marks.proofs.mark_of.Statement.{statement}
+use Rattle.marks.proofs.mark_of.Tie as tie
+use Rattle.marks.proofs.mark_of.Reads as reads
+use Rattle.marks.proofs.mark_of.Lts as lts
+use Rattle.marks.proofs.byte.Reads as byte-reads
 
 -- src/lib.rt:213:23
 shared-slice-read-byte : tie.Need-shared-slice-read-byte

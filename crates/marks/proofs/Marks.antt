@@ -2,15 +2,15 @@
 use Prim.Native.Nat.{ℕ, zero, suc, _+_, _≤_, _<_}
 use mathlib.Core.Path.{_≡_, refl, sym, ap, _∙_}
 use mathlib.Core.Bool.{Bool, true, false, _&&_, _||_, not}
-use mathlib.Core.List.{List, [], _∷_}
+use mathlib.Core.List.{List, [], _∷_, map}
 use native.Mathlib.Omega.{arith}
 use lib.Dec.{eqb, leb, ltb}
-use lib.ListN.{length, getD}
+use lib.ListN.{length, getD, length-map}
 use borrow.Author.Tests.{eqb-true, eq-eqb, ltb-true, ltb-false, lt-ltb, le-ltb, leb-true}
 use Rattle.definition.specs.Text.{str, same, placeIn}
 use Rattle.definition.specs.Elements.{among, elementNames, keyNames, numberIn, tagOf, keyOf}
 use Rattle.definition.proofs.Base.{same-eq, true-is-false, and-left, and-right}
-use Rattle.nesting.specs.Tables.{mark, numberIf}
+use Rattle.marks.specs.Marks.{mark, numberIf}
 
 -- ---- a search in a list of names
 
@@ -74,24 +74,23 @@ module _ (ns : List (List ℕ)) (w : List ℕ) where
 
 -- ---- computed tests of the names
 
--- Of the names, which begin with the place k, only the one at i has the mark v.
-unfoldable pub alone : ℕ → List (List ℕ) → ℕ → ℕ → Bool
-unfolding mark
+-- Of the marks, which begin with the place k, only the one at i is v.
+unfoldable pub alone : ℕ → List ℕ → ℕ → ℕ → Bool
 alone k [] v i = true
-alone k (n ∷ ns) v i = elim (eqb (mark n) v) [ true ↦ eqb k i && alone (suc k) ns v i | false ↦ alone (suc k) ns v i ]
+alone k (m ∷ ms) v i = elim (eqb m v) [ true ↦ eqb k i && alone (suc k) ms v i | false ↦ alone (suc k) ms v i ]
 
-alone-at : (k : ℕ) (ns : List (List ℕ)) (v i : ℕ) → alone k ns v i ≡ true → (j : ℕ) → j < length ns → mark (getD ns j []) ≡ v → k + j ≡ i
+alone-at : (k : ℕ) (ms : List ℕ) (v i : ℕ) → alone k ms v i ≡ true → (j : ℕ) → j < length ms → getD ms j 0 ≡ v → k + j ≡ i
 unfolding alone
 alone-at k [] v i e j h m = absurd (omega arith)
-alone-at k (n ∷ ns) v i e zero h m = go (eqb (mark n) v) (eq-eqb (mark n) v m) e
+alone-at k (n ∷ ms) v i e zero h m = go (eqb n v) (eq-eqb n v m) e
   where
-    go : (b : Bool) → b ≡ true → elim b [ true ↦ eqb k i && alone (suc k) ns v i | false ↦ alone (suc k) ns v i ] ≡ true → k + 0 ≡ i
-    go true q e = omega (arith, eqb-true k i (and-left (eqb k i) (alone (suc k) ns v i) e))
+    go : (b : Bool) → b ≡ true → elim b [ true ↦ eqb k i && alone (suc k) ms v i | false ↦ alone (suc k) ms v i ] ≡ true → k + 0 ≡ i
+    go true q e = omega (arith, eqb-true k i (and-left (eqb k i) (alone (suc k) ms v i) e))
     go false q e = true-is-false (sym q)
-alone-at k (n ∷ ns) v i e (suc j) h m = go (eqb (mark n) v) (λ a. alone-at (suc k) ns v i a j (omega arith) m) e
+alone-at k (n ∷ ms) v i e (suc j) h m = go (eqb n v) (λ a. alone-at (suc k) ms v i a j (omega arith) m) e
   where
-    go : (b : Bool) → (alone (suc k) ns v i ≡ true → suc k + j ≡ i) → elim b [ true ↦ eqb k i && alone (suc k) ns v i | false ↦ alone (suc k) ns v i ] ≡ true → k + suc j ≡ i
-    go true ih e = omega (arith, ih (and-right (eqb k i) (alone (suc k) ns v i) e))
+    go : (b : Bool) → (alone (suc k) ms v i ≡ true → suc k + j ≡ i) → elim b [ true ↦ eqb k i && alone (suc k) ms v i | false ↦ alone (suc k) ms v i ] ≡ true → k + suc j ≡ i
+    go true ih e = omega (arith, ih (and-right (eqb k i) (alone (suc k) ms v i) e))
     go false ih e = omega (arith, ih e)
 
 -- A mark that is none of these.
@@ -108,16 +107,37 @@ not-among h (v ∷ vs) n e = go (eqb h v) refl (not-among h vs (n .0)) e
     go true q ih e = n .1 (eqb-true h v q)
     go false q ih e = ih e
 
-unfoldable pub covered : List (List ℕ) → List ℕ → Bool
-unfolding among mark
+-- All of these are among those.
+unfoldable pub covered : List ℕ → List ℕ → Bool
+unfolding among
 covered [] vs = true
-covered (n ∷ ns) vs = among (mark n) vs && covered ns vs
+covered (m ∷ ms) vs = among m vs && covered ms vs
 
-covered-at : (ns : List (List ℕ)) (vs : List ℕ) → covered ns vs ≡ true → (j : ℕ) → j < length ns → among (mark (getD ns j [])) vs ≡ true
+covered-at : (ms vs : List ℕ) → covered ms vs ≡ true → (j : ℕ) → j < length ms → among (getD ms j 0) vs ≡ true
 unfolding covered
 covered-at [] vs e j h = absurd (omega arith)
-covered-at (n ∷ ns) vs e zero h = and-left (among (mark n) vs) (covered ns vs) e
-covered-at (n ∷ ns) vs e (suc j) h = covered-at ns vs (and-right (among (mark n) vs) (covered ns vs) e) j (omega arith)
+covered-at (m ∷ ms) vs e zero h = and-left (among m vs) (covered ms vs) e
+covered-at (m ∷ ms) vs e (suc j) h = covered-at ms vs (and-right (among m vs) (covered ms vs) e) j (omega arith)
+
+-- The marks of all names, in order.
+mark-at : (ns : List (List ℕ)) (j : ℕ) → j < length ns → mark (getD ns j []) ≡ getD (map mark ns) j 0
+mark-at [] j h = absurd (omega arith)
+mark-at (n ∷ ns) zero h = refl
+mark-at (n ∷ ns) (suc j) h = mark-at ns j (omega arith)
+
+abbrev pub elementMarks : List ℕ
+elementMarks = 4 ∷ 114 ∷ 5 ∷ 6 ∷ 10 ∷ 77 ∷ 17 ∷ 109 ∷ 74 ∷ 92 ∷ 106 ∷ 105 ∷ 112 ∷ 7 ∷ 58 ∷ 34 ∷ 82 ∷ 56 ∷ 93 ∷ 95 ∷ 3 ∷ 117 ∷ 31 ∷ 102 ∷ 126 ∷ 45 ∷ 110 ∷ []
+
+abbrev pub keyMarks : List ℕ
+keyMarks = 90 ∷ 17 ∷ 94 ∷ 6 ∷ 115 ∷ 18 ∷ 118 ∷ 59 ∷ 100 ∷ 51 ∷ 20 ∷ 45 ∷ 116 ∷ 63 ∷ 57 ∷ 103 ∷ 43 ∷ 37 ∷ 54 ∷ 84 ∷ 25 ∷ 75 ∷ 95 ∷ 41 ∷ 71 ∷ 40 ∷ 29 ∷ 2 ∷ []
+
+elements-marked : map mark elementNames ≡ elementMarks
+unfolding elementNames str mark
+elements-marked = refl
+
+keys-marked : map mark keyNames ≡ keyMarks
+unfolding keyNames str mark
+keys-marked = refl
 
 -- Every name has 2 to 11 bytes.
 unfoldable sized : List (List ℕ) → Bool
@@ -134,32 +154,39 @@ sized-at (n ∷ ns) e (suc j) h = sized-at ns (and-right (leb 2 (length n) && le
 
 -- ---- what the functions need
 
+module _ (ns : List (List ℕ)) (w : List ℕ) (ms : List ℕ) (em : map mark ns ≡ ms) where
+  known : (j : ℕ) → j < length ns → same (getD ns j []) w ≡ true → getD ms j 0 ≡ mark w
+  known j k e = sym (mark-at ns j k ∙ ap (λ (l : List ℕ). getD l j 0) em) ∙ ap mark (same-eq (getD ns j []) w e)
+
+  as-many : length ms ≡ length ns
+  as-many = sym (ap length em) ∙ length-map ns mark
+
+  marked-by : (v i : ℕ) → mark w ≡ v → alone 0 ms v i ≡ true → i < length ns → numberIf (same (getD ns i []) w) (suc i) ≡ numberIn ns w
+  marked-by v i m a h = found-by ns w i h (λ j k e. omega (arith, alone-at 0 ms v i a j (omega (arith, k, as-many)) (known j k e ∙ m)))
+
+  unmarked : (vs : List ℕ) → covered ms vs ≡ true → NotAny (mark w) vs → 0 ≡ numberIn ns w
+  unmarked vs c n = none-by ns w (λ j k e. not-among (mark w) vs n (sym (ap (λ (x : ℕ). among x vs) (known j k e)) ∙ covered-at ms vs c j (omega (arith, k, as-many))))
+
 module _ (ns : List (List ℕ)) (w : List ℕ) where
-  marked-by : (v i : ℕ) → mark w ≡ v → alone 0 ns v i ≡ true → i < length ns → numberIf (same (getD ns i []) w) (suc i) ≡ numberIn ns w
-  marked-by v i m a h = found-by ns w i h (λ j k e. omega (arith, alone-at 0 ns v i a j k (ap mark (same-eq (getD ns j []) w e) ∙ m)))
-
-  unmarked : (vs : List ℕ) → covered ns vs ≡ true → NotAny (mark w) vs → 0 ≡ numberIn ns w
-  unmarked vs c n = none-by ns w (λ j k e. not-among (mark w) vs n (sym (ap (λ (x : List ℕ). among (mark x) vs) (same-eq (getD ns j []) w e)) ∙ covered-at ns vs c j k))
-
   unsized : sized ns ≡ true → ((2 ≤ length w) × (length w ≤ 11) → ⊥) → 0 ≡ numberIn ns w
   unsized z n = none-by ns w (λ j k e. n (let x : length (getD ns j []) ≡ length w = ap length (same-eq (getD ns j []) w e) in (omega (arith, x, sized-at ns z j k .0), omega (arith, x, sized-at ns z j k .1))))
 
 module _ (w : List ℕ) where
-  pub tag-marked-by : (v i : ℕ) → mark w ≡ v → alone 0 elementNames v i ≡ true → i < 27 → numberIf (same (getD elementNames i []) w) (suc i) ≡ tagOf w
+  pub tag-marked-by : (v i : ℕ) → mark w ≡ v → alone 0 elementMarks v i ≡ true → i < 27 → numberIf (same (getD elementNames i []) w) (suc i) ≡ tagOf w
   unfolding tagOf elementNames
-  tag-marked-by v i m a h = marked-by elementNames w v i m a h
+  tag-marked-by v i m a h = marked-by elementNames w elementMarks elements-marked v i m a h
 
-  pub key-marked-by : (v i : ℕ) → mark w ≡ v → alone 0 keyNames v i ≡ true → i < 28 → numberIf (same (getD keyNames i []) w) (suc i) ≡ keyOf w
+  pub key-marked-by : (v i : ℕ) → mark w ≡ v → alone 0 keyMarks v i ≡ true → i < 28 → numberIf (same (getD keyNames i []) w) (suc i) ≡ keyOf w
   unfolding keyOf keyNames
-  key-marked-by v i m a h = marked-by keyNames w v i m a h
+  key-marked-by v i m a h = marked-by keyNames w keyMarks keys-marked v i m a h
 
-  pub tag-unmarked : (vs : List ℕ) → covered elementNames vs ≡ true → NotAny (mark w) vs → 0 ≡ tagOf w
+  pub tag-unmarked : (vs : List ℕ) → covered elementMarks vs ≡ true → NotAny (mark w) vs → 0 ≡ tagOf w
   unfolding tagOf
-  tag-unmarked vs c n = unmarked elementNames w vs c n
+  tag-unmarked vs c n = unmarked elementNames w elementMarks elements-marked vs c n
 
-  pub key-unmarked : (vs : List ℕ) → covered keyNames vs ≡ true → NotAny (mark w) vs → 0 ≡ keyOf w
+  pub key-unmarked : (vs : List ℕ) → covered keyMarks vs ≡ true → NotAny (mark w) vs → 0 ≡ keyOf w
   unfolding keyOf
-  key-unmarked vs c n = unmarked keyNames w vs c n
+  key-unmarked vs c n = unmarked keyNames w keyMarks keys-marked vs c n
 
   pub tag-unsized : ((2 ≤ length w) × (length w ≤ 11) → ⊥) → 0 ≡ tagOf w
   unfolding tagOf sized elementNames str

@@ -1,12 +1,12 @@
 use native.Mathlib.Omega.{arith}
-use Rattle.nesting.proofs.Marks.{tag-unsized}
+use Rattle.marks.proofs.Marks.{tag-unsized}
 use borrow.Author.Needs.{needs}
-use Rattle.nesting.proofs.tag_of.Statement.{statement}
-use Rattle.nesting.proofs.tag_of.Tie as tie
-use Rattle.nesting.proofs.tag_of.Reads as reads
-use Rattle.nesting.proofs.tag_of.Lts as lts
-use Rattle.nesting.proofs.mark_of.Reads as mark-of-reads
-use Rattle.nesting.proofs.tag_marked.Reads as tag-marked-reads
+use Rattle.elements.proofs.tag_of.Statement.{statement}
+use Rattle.elements.proofs.tag_of.Tie as tie
+use Rattle.elements.proofs.tag_of.Reads as reads
+use Rattle.elements.proofs.tag_of.Lts as lts
+use Rattle.marks.proofs.mark_of.Reads as mark-of-reads
+use Rattle.elements.proofs.tag_marked.Reads as tag-marked-reads
 
 -- src/lib.rt:263:9
 returns : tie.Need-returns

@@ -1,12 +1,12 @@
 use native.Mathlib.Omega.{arith}
-use Rattle.nesting.proofs.Marks.{key-unsized}
+use Rattle.marks.proofs.Marks.{key-unsized}
 use borrow.Author.Needs.{needs}
-use Rattle.nesting.proofs.key_of.Statement.{statement}
-use Rattle.nesting.proofs.key_of.Tie as tie
-use Rattle.nesting.proofs.key_of.Reads as reads
-use Rattle.nesting.proofs.key_of.Lts as lts
-use Rattle.nesting.proofs.key_marked.Reads as key-marked-reads
-use Rattle.nesting.proofs.mark_of.Reads as mark-of-reads
+use Rattle.keys.proofs.key_of.Statement.{statement}
+use Rattle.keys.proofs.key_of.Tie as tie
+use Rattle.keys.proofs.key_of.Reads as reads
+use Rattle.keys.proofs.key_of.Lts as lts
+use Rattle.keys.proofs.key_marked.Reads as key-marked-reads
+use Rattle.marks.proofs.mark_of.Reads as mark-of-reads
 
 -- src/lib.rt:314:9
 returns : tie.Need-returns
