@@ -18,13 +18,14 @@ use decision::some_words;
 use decision::state_to;
 use definition::RegionId;
 use definition::StateId;
-use plan::EntryKind;
+use definition::codes::EntryKind;
+use definition::codes::Kind;
+use definition::codes::ListKind;
+use definition::codes::OwnerKind;
+use definition::codes::Tag;
 use plan::EntryPlan;
-use plan::EventKind;
 use plan::Heard;
-use plan::ListKind;
 use plan::OpenRegionPlan;
-use plan::OwnerKind;
 use plan::ParameterPlan;
 use plan::Plan;
 use plan::Put;
@@ -32,7 +33,6 @@ use plan::Refusal;
 use plan::Seen;
 use plan::Shape;
 use plan::StateTexts;
-use plan::Tag;
 ghost use mathlib.Core.Path.{_≡_};
 ghost use Prim.Native.Nat.{_<_};
 ghost use Rattle.plan.specs.Plan.{planned};
@@ -76,7 +76,7 @@ pub fn log(v: Seen, q: Heard) -> Decision
 pub fn assign(v: Seen, q: Heard) -> Decision
     ensures { λ r. ⌜ told r ≡ assignP v q ⌝ }
 {
-    if q.kind == EventKind::WHOLE {
+    if q.kind == Kind::WHOLE {
         return entry(Shape::TEXT, EntryKind::ASSIGN, v);
     }
     entry(Shape::PLAIN, EntryKind::ASSIGN, v)
@@ -328,7 +328,7 @@ fn send_content(v: Seen, q: Heard) -> Plan
     ensures { λ r. ⌜ planned r ≡ sendContentP v q ⌝ }
 {
     let mut p = begun(v);
-    if q.expr | (q.kind == EventKind::WHOLE) {
+    if q.expr | (q.kind == Kind::WHOLE) {
         let mut row = no_entry();
         row.at = v.entry;
         row.filled = 1;

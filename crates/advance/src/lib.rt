@@ -2,11 +2,11 @@
 use arena::Written;
 use definition::Position;
 use definition::RegionId;
+use definition::codes::Kind;
 use plan::ChartPlan;
 use plan::CounterPlan;
 use plan::DatumPlan;
 use plan::EntryPlan;
-use plan::EventKind;
 use plan::InvokePlan;
 use plan::MemberPlan;
 use plan::MembersPlan;
@@ -37,14 +37,14 @@ fn opened_after(kind: u32, p: Position) -> u32
     requires { ⌜ (kind ≡ 0 → p .opened < 32) ⌝ }
     ensures { λ r. ⌜ r ≡ openedBy kind (p .opened) ⌝ }
 {
-    if kind == EventKind::OPEN {
+    if kind == Kind::OPEN {
         let q = p.push();
         return q.opened;
     }
-    if kind == EventKind::EMPTY {
+    if kind == Kind::EMPTY {
         return p.opened;
     }
-    if kind == EventKind::WHOLE {
+    if kind == Kind::WHOLE {
         return p.opened;
     }
     let q = p.pop();

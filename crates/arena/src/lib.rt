@@ -4,6 +4,7 @@ use payload::append_event;
 use plain::Plain;
 use plan::MembersPlan;
 use rows::index;
+use rows::leading;
 use targets::write_names;
 use texts::texts_of;
 use wordlists::write_words;
@@ -11,15 +12,6 @@ ghost use mathlib.Core.Path.{_≡_};
 ghost use lib.ListN.{take};
 ghost use Rattle.plain.specs.Plain.{parsedIn};
 ghost use Rattle.arena.specs.Storing.{Storable, Stored};
-
-fn in_use(text: &[u8], n: usize) -> &[u8]
-    ensures { λ r. ⌜ now r ≡ take n (now (text .entry)) ⌝ }
-{
-    if n <= text.len() {
-        return &text[..n];
-    }
-    text
-}
 
 /// How many rows of states and of members there are then, how much of the text is in use, and where the event's texts lie in it.
 pub struct Written {
@@ -48,7 +40,7 @@ pub fn write_texts(
     let t = texts_of(src, pl, base, made, e);
     let used = e.all;
     let words = m.words;
-    let arena = in_use(text, used);
+    let arena = leading(text, used);
     let first = index(p.members);
     let count = index(p.states);
     let next = write_words(members, first, arena, &t, pl.tag, words);

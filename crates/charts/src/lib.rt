@@ -1,4 +1,7 @@
 // The chart's row, states and transitions, written as a plan says. `t` are the event's texts, `tag` its element, n rows are in use.
+use definition::cells::ChartColumn;
+use definition::cells::StateColumn;
+use definition::cells::TransitionColumn;
 use entries::fill_plus;
 use entries::put_plus;
 use fill::fill;
@@ -19,12 +22,12 @@ fn transition_row(p: TransitionPlan, tag: u32, t: &[u32]) -> [u32; 8]
     ensures { λ r. ⌜ r ≡ newTransition (now (t .entry)) tag p ⌝ }
 {
     let mut row = [0u32; 8];
-    row[0] = p.number;
-    row[1] = p.doc;
-    row[2] = p.source;
-    row[3] = p.mode;
-    row[4] = p.wildcard;
-    row[5] = p.content;
+    row[TransitionColumn::NUMBER] = p.number;
+    row[TransitionColumn::DOC] = p.doc;
+    row[TransitionColumn::SOURCE] = p.source;
+    row[TransitionColumn::TYPE] = p.mode;
+    row[TransitionColumn::WILDCARD] = p.wildcard;
+    row[TransitionColumn::CONTENT] = p.content;
     fill_plus(&mut row, tag, p.texts, t);
     row
 }
@@ -33,7 +36,7 @@ fn transition_changed(old: [u32; 8], p: TransitionPlan) -> [u32; 8]
     ensures { λ r. ⌜ r ≡ set old 5 (p .region) ⌝ }
 {
     let mut row = old;
-    row[5] = p.region;
+    row[TransitionColumn::CONTENT] = p.region;
     row
 }
 
@@ -78,14 +81,14 @@ pub fn change_transitions(
 fn put_columns(row: &mut [u32], p: StatePlan)
     ensures { λ _. ⌜ now (row .exit) ≡ stateColumnsAfter p (now (row .entry)) ⌝ }
 {
-    put_plus(row, 3, p.initial);
-    put_plus(row, 2, p.doc);
-    put_plus(row, 4, p.parent);
-    put_plus(row, 5, p.parallel);
-    put_plus(row, 6, p.ends);
-    put_plus(row, 7, p.history);
-    put_plus(row, 8, p.donedata);
-    put_plus(row, 9, p.filled);
+    put_plus(row, StateColumn::INITIAL, p.initial);
+    put_plus(row, StateColumn::DOC, p.doc);
+    put_plus(row, StateColumn::PARENT, p.parent);
+    put_plus(row, StateColumn::PARALLEL, p.parallel);
+    put_plus(row, StateColumn::FINAL, p.ends);
+    put_plus(row, StateColumn::HISTORY, p.history);
+    put_plus(row, StateColumn::DONEDATA, p.donedata);
+    put_plus(row, StateColumn::HAS_CONTENT, p.filled);
 }
 
 fn state_changed(old: [u32; 24], p: StatePlan, tag: u32, t: &[u32]) -> [u32; 24]
@@ -119,16 +122,16 @@ fn put_root(row: &mut [u32], tag: u32, s: u32, t: &[u32])
         return;
     }
     fill(row, tag, 0, t);
-    put(row, 0, s - 1);
+    put(row, ChartColumn::ROOT, s - 1);
 }
 
 fn chart_changed(old: [u32; 24], p: ChartPlan, tag: u32, t: &[u32]) -> [u32; 24]
     ensures { λ r. ⌜ r ≡ chartRow (now (t .entry)) tag p old ⌝ }
 {
     let mut row = old;
-    put_plus(&mut row, 2, p.binding);
+    put_plus(&mut row, ChartColumn::BINDING, p.binding);
     put_root(&mut row, tag, p.root, t);
-    put_plus(&mut row, 1, p.script);
+    put_plus(&mut row, ChartColumn::SCRIPT, p.script);
     row
 }
 

@@ -2,7 +2,6 @@
 use Prim.Native.Nat.{ℕ, zero, suc, _<_}
 use mathlib.Core.Path.{_≡_, refl, sym, ap}
 use mathlib.Core.Bool.{Bool, true, false}
-use Rattle.definition.specs.Look.{oneIf}
 use native.Mathlib.Omega.{arith}
 use Rattle.plan.specs.Decided.{oneUnless, unless}
 
@@ -25,14 +24,6 @@ pub unless-yes : (k x : ℕ) → ¬ (k ≡ 0) → x ≡ unless k x
 unfolding unless
 unless-yes zero x e = absurd (e refl)
 unless-yes (suc k) x e = refl
-
-pub if-yes : (b : Bool) → b ≡ true → 1 ≡ oneIf b
-unfolding oneIf
-if-yes b e = ap oneIf (sym e)
-
-pub if-no : (b : Bool) → b ≡ false → 0 ≡ oneIf b
-unfolding oneIf
-if-no b e = ap oneIf (sym e)
 
 pub unless-small : (k x m : ℕ) → x < m → unless k x < m
 unfolding unless

@@ -17,16 +17,17 @@ use decision::Decision;
 use decision::rest;
 use definition::Chart;
 use definition::Position;
-use plan::EntryKind;
-use plan::EventKind;
+use definition::codes::EntryKind;
+use definition::codes::Kind;
+use definition::codes::ListKind;
+use definition::codes::Tag;
+use definition::one_if;
 use plan::Heard;
-use plan::ListKind;
 use plan::MembersPlan;
 use plan::Plan;
 use plan::Put;
 use plan::Seen;
 use plan::Shape;
-use plan::Tag;
 use regions::both_finalize;
 use regions::both_listed;
 use regions::both_transition;
@@ -48,7 +49,6 @@ ghost use mathlib.Core.Path.{_≡_};
 ghost use Prim.Native.Nat.{_<_, _+_, _-_};
 ghost use lib.Dec.{leb};
 ghost use Rattle.definition.specs.Limits.{limits01};
-ghost use Rattle.definition.specs.Look.{oneIf};
 ghost use Rattle.plan.specs.Plans.{startP, bothP, endP, planBy, restP};
 ghost use Rattle.plan.specs.Decided.{oneUnless, unless};
 ghost use Rattle.decision.specs.Told.{told};
@@ -142,9 +142,9 @@ pub fn decide(kind: u32, v: Seen, q: Heard) -> Decision
     ensures { λ r. ⌜ told r ≡ planBy kind v q ⌝ }
 {
     match kind {
-        EventKind::OPEN => start(q.tag, v, q),
-        EventKind::EMPTY => both(q.tag, v, q),
-        EventKind::WHOLE => both(q.tag, v, q),
+        Kind::OPEN => start(q.tag, v, q),
+        Kind::EMPTY => both(q.tag, v, q),
+        Kind::WHOLE => both(q.tag, v, q),
         _ => end(q.tag, v),
     }
 }
@@ -156,15 +156,6 @@ fn one_unless(k: u32) -> u32
         return 0;
     }
     1
-}
-
-fn one_if(b: bool) -> u32
-    ensures { λ r. ⌜ (r ≡ oneIf b) × (r < 2) ⌝ }
-{
-    if b {
-        return 1;
-    }
-    0
 }
 
 fn unless(k: u32, x: u32) -> u32

@@ -1,7 +1,11 @@
 ghost use mathlib.Core.Path.{_≡_};
-ghost use Prim.Native.Nat.{_-_};
+ghost use Prim.Native.Nat.{_-_, _<_};
 ghost use Rattle.definition.specs.Limits.{limits01};
+ghost use Rattle.definition.specs.Look.{oneIf};
 ghost use Rattle.definition.specs.Position.{oneMore, pushedAt, poppedAt, idDrawn, docDrawn, nameDrawn};
+
+pub mod cells;
+pub mod codes;
 
 /// The chart type: its associated constants are document 01's limits.
 pub struct Chart {}
@@ -83,6 +87,16 @@ impl Chart {
             charge: Chart::CHARGE,
         }
     }
+}
+
+/// A yes as a number.
+pub fn one_if(b: bool) -> u32
+    ensures { λ r. ⌜ (r ≡ oneIf b) × (r < 2) ⌝ }
+{
+    if b {
+        return 1;
+    }
+    0
 }
 
 /// Numbers of rows are three types: one given for another does not compile. To C each is its number.

@@ -1,10 +1,15 @@
 // Entries, invokes, data and parameters, written as a plan says: one function a table. `t` are the event's texts, `tag` its element, n rows are in use.
+use definition::cells::DatumColumn;
+use definition::cells::EntryColumn;
+use definition::cells::InvokeColumn;
+use definition::cells::ParameterColumn;
 use fill::fill;
 use fill::put;
 use plan::DatumPlan;
 use plan::EntryPlan;
 use plan::InvokePlan;
 use plan::ParameterPlan;
+use plan::Shape;
 use rows::index;
 use tables::put_8;
 use tables::put_24;
@@ -49,10 +54,10 @@ fn entry_row(p: EntryPlan, tag: u32, t: &[u32]) -> [u32; 48]
     ensures { λ r. ⌜ r ≡ newEntry (now (t .entry)) tag p ⌝ }
 {
     let mut row = [0u32; 48];
-    row[0] = p.region;
-    row[1] = p.kind;
-    row[2] = p.state;
-    row[3] = p.content;
+    row[EntryColumn::REGION] = p.region;
+    row[EntryColumn::KIND] = p.kind;
+    row[EntryColumn::STATE] = p.state;
+    row[EntryColumn::CONTENT] = p.content;
     fill(&mut row, tag, p.shape, t);
     row
 }
@@ -71,8 +76,15 @@ fn entry_changed(old: [u32; 48], p: EntryPlan, tag: u32, t: &[u32]) -> [u32; 48]
     ensures { λ r. ⌜ r ≡ oldEntry (now (t .entry)) tag p old ⌝ }
 {
     let mut row = old;
-    put_plus(&mut row, 4, p.other);
-    fill_record(&mut row, tag, 0, 5, p.filled, t);
+    put_plus(&mut row, EntryColumn::ELSE, p.other);
+    fill_record(
+        &mut row,
+        tag,
+        Shape::PLAIN,
+        EntryColumn::HAS_CONTENT,
+        p.filled,
+        t,
+    );
     row
 }
 
@@ -102,9 +114,9 @@ fn invoke_row(p: InvokePlan, tag: u32, t: &[u32]) -> [u32; 24]
     ensures { λ r. ⌜ r ≡ newInvoke (now (t .entry)) tag p ⌝ }
 {
     let mut row = [0u32; 24];
-    row[0] = p.state;
-    row[1] = p.autoforward;
-    fill(&mut row, tag, 0, t);
+    row[InvokeColumn::STATE] = p.state;
+    row[InvokeColumn::AUTOFORWARD] = p.autoforward;
+    fill(&mut row, tag, Shape::PLAIN, t);
     row
 }
 
@@ -112,8 +124,15 @@ fn invoke_changed(old: [u32; 24], p: InvokePlan, tag: u32, t: &[u32]) -> [u32; 2
     ensures { λ r. ⌜ r ≡ oldInvoke (now (t .entry)) tag p old ⌝ }
 {
     let mut row = old;
-    put_plus(&mut row, 2, p.finalize);
-    fill_record(&mut row, tag, 1, 3, p.filled, t);
+    put_plus(&mut row, InvokeColumn::FINALIZE, p.finalize);
+    fill_record(
+        &mut row,
+        tag,
+        Shape::TEXT,
+        InvokeColumn::HAS_CONTENT,
+        p.filled,
+        t,
+    );
     row
 }
 
@@ -153,7 +172,7 @@ fn datum_row(p: DatumPlan, tag: u32, t: &[u32]) -> [u32; 8]
     ensures { λ r. ⌜ r ≡ newDatum (now (t .entry)) tag p ⌝ }
 {
     let mut row = [0u32; 8];
-    row[0] = p.state;
+    row[DatumColumn::STATE] = p.state;
     fill(&mut row, tag, p.shape, t);
     row
 }
@@ -202,9 +221,9 @@ fn parameter_row(p: ParameterPlan, tag: u32, t: &[u32]) -> [u32; 8]
     ensures { λ r. ⌜ r ≡ newParameter (now (t .entry)) tag p ⌝ }
 {
     let mut row = [0u32; 8];
-    row[0] = p.kind;
-    row[1] = p.owner;
-    fill(&mut row, tag, 0, t);
+    row[ParameterColumn::KIND] = p.kind;
+    row[ParameterColumn::OWNER] = p.owner;
+    fill(&mut row, tag, Shape::PLAIN, t);
     row
 }
 

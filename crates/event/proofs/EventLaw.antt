@@ -12,7 +12,6 @@ use Rattle.definition.specs.Limits.{limits01}
 use Rattle.definition.specs.Text.{same}
 use Rattle.definition.specs.Elements.{tagOf, holdsText}
 use Rattle.definition.specs.Event.{Attribute, Event, hasText, noAttributes, kindFits, between, attributesFit, textFits, inForm, hasKey, keysDiffer, readEvent}
-use Rattle.definition.specs.Look.{valuesLength}
 use Rattle.definition.proofs.Base.{true-is-false, some-inj, and-left, and-right}
 use Rattle.definition.proofs.EventLength.{event-length}
 use Rattle.lines.specs.Parts.{orNothing}
@@ -23,7 +22,7 @@ use Rattle.walk.specs.Reads.{Pairs, no-pairs, pair}
 use Rattle.walk.proofs.WalkLaw.{TextReads, walk-no-text, walk-text, Stopped}
 use Rattle.walk.proofs.TakenLaw.{Carries, Within, Taken, whole, too-long, none-of, taken-law}
 use Rattle.event.specs.declared.Described.{Described}
-use Rattle.event.specs.Described.{blank, descriptionOf, shapeFits, inShape, read, pairKeys, isAmong, allDiffer, finished, described, valuesSize}
+use Rattle.event.specs.Described.{blank, descriptionOf, shapeFits, inShape, read, pairKeys, isAmong, allDiffer, finished, described}
 use Rattle.event.specs.Agrees.{TextDescribed, no-text, a-text, Describes, Agrees, out-of-form, keys-repeat, in-form, answer}
 
 -- ---- keys
@@ -191,12 +190,3 @@ number-law raw = go (agrees raw)
     go (out-of-form e f) = ap (λ (x : Described). x .number) e ∙ refused (readEvent raw) f
     go (keys-repeat w e r f k) = ap (λ (x : Described). x .number) e ∙ answered w false f k ∙ ap answer (sym r)
     go (in-form w r f k d) = d .number ∙ answered w true f k ∙ ap answer (sym r)
-
--- The sum over a description's values is what the definition's text charge counts of them.
-values-read : {raw : List ℕ} {ps : List Pair} {ats : List Attribute} → Pairs raw ps ats → valuesSize ps ≡ valuesLength ats
-unfolding valuesSize valuesLength
-values-read no-pairs = refl
-values-read (pair {p} {a} r h) = ap₂ _+_ (r .value .long) (values-read h)
-
-pub values-law : (raw : List ℕ) (d : Described) (e : Event) → Describes raw d e → valuesSize (take (d .count) (d .pairs)) ≡ valuesLength (e .attributes)
-values-law raw d e h = values-read (h .pairs)

@@ -1,4 +1,4 @@
--- The pairs one after another: their keys, and the lengths of their values.
+-- The pairs one after another: their keys.
 use Prim.Native.Nat.{ℕ, _+_, _*_, _≤_, _<_}
 use mathlib.Core.Path.{_≡_, sym, ap, ap₂, _∙_}
 use mathlib.Core.Bool.{true, false}
@@ -13,7 +13,7 @@ use Rattle.lines.specs.Parts.{part, orNothing}
 use Rattle.parts.specs.declared.Part.{Part}
 use Rattle.parts.specs.declared.Pair.{Pair}
 use Rattle.parts.specs.Parts.{noPair}
-use Rattle.event.specs.Described.{read, pairKeys, isAmong, allDiffer, valuesSize}
+use Rattle.event.specs.Described.{read, pairKeys, isAmong, allDiffer}
 
 -- A key as the code cuts it out.
 pub key-read : (raw : List ℕ) (p : Part) (at len : ℕ) (x : List ℕ) → x ≡ part raw at len → at ≡ p .at → len ≡ p .len → orNothing (legible x) ≡ read raw p
@@ -67,27 +67,3 @@ module _ (raw : List ℕ) (ps : List Pair) (c j : ℕ) where
   pub differ-none : drop j (take c ps) ≡ [] → true ≡ allDiffer (keysFrom raw ps c j)
   unfolding allDiffer pairKeys
   differ-none e = sym (ap (λ (x : List Pair). allDiffer (pairKeys raw x)) e)
-
--- ---- the lengths of values
-
--- What is left from pair i on, and a bound of the sum.
-pub record Summing (ps : List Pair) (c sum i : ℕ) : Type 0 where
-  pub rest : sum + valuesSize (drop i (take c ps)) ≡ valuesSize (take c ps)
-  pub bound : sum ≤ i * 65536
-  pub few : i ≤ 16
-
-module _ (ps : List Pair) (c : ℕ) where
-  pub sum-start : Summing ps c 0 0
-  sum-start = record { rest = omega arith; bound = omega arith; few = omega arith }
-
-  module _ (sum i : ℕ) (s : Summing ps c sum i) where
-    pub sum-more : i < c → i < length ps → i < 16 → (n : ℕ) → n ≡ getD ps i noPair .value .size → n < 65536 → Summing ps c (sum + n) (i + 1)
-    unfolding valuesSize
-    sum-more h k f n e b =
-        let z : valuesSize (drop i (take c ps)) ≡ n + valuesSize (drop (i + 1) (take c ps)) =
-        ap valuesSize (pair-next ps c i h k) ∙ ap (λ (x : ℕ). x + valuesSize (drop (i + 1) (take c ps))) (sym e) in
-        record { rest = omega (arith, z, s .rest); bound = omega (arith, s .bound); few = omega arith }
-
-    pub sum-none : drop i (take c ps) ≡ [] → sum ≡ valuesSize (take c ps)
-    unfolding valuesSize
-    sum-none e = let z : valuesSize (drop i (take c ps)) ≡ 0 = ap valuesSize e in omega (arith, z, s .rest)

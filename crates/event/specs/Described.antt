@@ -90,8 +90,3 @@ finished raw w =
 unfoldable pub described : List ℕ → Described
 unfolding finished walked
 described raw = finished raw (walked raw)
-
--- "The lengths of all values" in the text charge: unescaped, those of unknown keys too.
-unfoldable pub valuesSize : List Pair → ℕ
-valuesSize [] = 0
-valuesSize (p ∷ ps) = p .value .size + valuesSize ps

@@ -11,7 +11,7 @@ ghost use mathlib.Core.Path.{_≡_};
 ghost use Prim.Native.Nat.{_+_, _<_};
 ghost use lib.ListN.{getD, take, drop};
 ghost use Rattle.parts.specs.Parts.{noPair};
-ghost use Rattle.event.specs.Described.{blank, descriptionOf, shapeFits, read, pairKeys, isAmong, allDiffer, described, valuesSize};
+ghost use Rattle.event.specs.Described.{blank, descriptionOf, shapeFits, read, pairKeys, isAmong, allDiffer, described};
 
 // An event's bytes taken apart: its kind from 0 and its element's number, and the first `count` of `pairs` are its attributes, in order. Of kind 2,
 // `whole`, `text` is the text. A refused event has the number of the question that is answered no, and zeros.
@@ -150,23 +150,4 @@ pub fn describe(raw: &[u8]) -> Described
         return blank_with(4);
     }
     description_of(w)
-}
-
-// The lengths of all values together, unescaped, those of unknown keys too: what the text charge counts of them.
-pub fn values_len(d: Described) -> usize
-    ensures { λ r. ⌜ r ≡ valuesSize (take (d .count) (d .pairs)) ⌝ }
-{
-    let count = d.count;
-    let pairs = d.pairs;
-    let mut sum = 0;
-    let mut i = 0;
-    while i < 16 {
-        if count <= i {
-            return sum;
-        }
-        let p = pairs[i];
-        sum += place(p.value.size);
-        i += 1;
-    }
-    sum
 }

@@ -1,9 +1,12 @@
 // What an event says, as numbers: all that a plan needs of it; the questions 5 to 12; the rows that it finds.
 use definition::Chart;
+use definition::cells::DatumColumn;
+use definition::cells::OpenColumn;
+use definition::codes::Key;
+use definition::codes::Kind;
+use definition::codes::Tag;
+use definition::one_if;
 use names::is_at;
-use nesting::Key;
-use nesting::Kind;
-use nesting::Tag;
 use nesting::parent_allowed;
 use plain::Plain;
 use plain::bytes_of;
@@ -26,7 +29,7 @@ ghost use lib.ListN.{length};
 ghost use Rattle.definition.specs.Text.{same, eventWords, stateWords, bytesAt};
 ghost use Rattle.definition.specs.Elements.{key};
 ghost use Rattle.definition.specs.Elements as E;
-ghost use Rattle.definition.specs.Look.{oneIf, codeOf, wordSpans, findDatum, isInnermost};
+ghost use Rattle.definition.specs.Look.{codeOf, wordSpans, findDatum, isInnermost};
 ghost use Rattle.definition.specs.Actions.{typeOf};
 ghost use Rattle.plain.specs.Plain.{slotsOf, parsedIn};
 ghost use Rattle.plain.specs.Keyed.{indexOf, isMarked};
@@ -36,15 +39,6 @@ ghost use lib.Dec.{eqb, leb};
 ghost use Rattle.definition.specs.Reader.{firstNo};
 ghost use Rattle.heard.specs.Asked.{leftOutBy, completeBy, apartBy, trimmedIn, textApartIn, askedIn, pick, questionsBy};
 ghost use Rattle.heard.specs.Found.{isDatum, foundIn};
-
-fn one_if(b: bool) -> u32
-    ensures { λ r. ⌜ r ≡ oneIf b ⌝ }
-{
-    if b {
-        return 1;
-    }
-    0
-}
 
 fn or_else(there: bool, x: u32, d: u32) -> u32
     ensures { λ r. ⌜ r ≡ orElse there x d ⌝ }
@@ -355,19 +349,12 @@ pub fn first_no(h: Heard, a: Asked, innermost: bool, depth: u32, parent: u32, ro
     choose(start | innermost, 5, q6)
 }
 
-// Columns of a row of data: its state, and its id's cell.
-const STATE: usize = 0;
-
-const ID: usize = 1;
-
-const ID_LENGTH: usize = 2;
-
 fn is_datum(row: [u32; 8], text: &[u8], state: u32, w: &[u8]) -> bool
     ensures { λ r. ⌜ r ≡ isDatum (now (text .entry)) row state (now (w .entry)) ⌝ }
 {
-    if row[STATE] == state {
-        let at = row[ID];
-        let len = row[ID_LENGTH];
+    if row[DatumColumn::STATE] == state {
+        let at = row[DatumColumn::ID];
+        let len = row[DatumColumn::ID_LENGTH];
         return is_at(text, at, len, w);
     }
     false
@@ -413,11 +400,6 @@ fn is_kept(row: [u8; 64], len: usize, name: &[u8]) -> bool
     same_at(&row, 0, len, name)
 }
 
-// Columns of an open element: its tag, and the length of an unknown name.
-const TAG: usize = 0;
-
-const LENGTH: usize = 3;
-
 // Whether the innermost open element has this name: a known one by its tag.
 pub fn is_innermost(opened: &[[u32; 8]], names: &[[u8; 64]], tag: u32, name: &[u8]) -> bool
     ensures { λ r. ⌜ r ≡ isInnermost (now (opened .entry)) (now (names .entry)) tag (now (name .entry)) ⌝ }
@@ -430,13 +412,13 @@ pub fn is_innermost(opened: &[[u32; 8]], names: &[[u8; 64]], tag: u32, name: &[u
         return false;
     }
     let i = depth - 1;
-    if opened[i][TAG] != tag {
+    if opened[i][OpenColumn::TAG] != tag {
         return false;
     }
     if tag != Tag::UNKNOWN {
         return true;
     }
-    let len = index(opened[i][LENGTH]);
+    let len = index(opened[i][OpenColumn::LENGTH]);
     let row = names[i];
     is_kept(row, len, name)
 }

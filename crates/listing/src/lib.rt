@@ -1,5 +1,9 @@
 // A chart as the program `chartlist` prints it, put into a lent buffer. What does not fit is left out.
 use definition::Position;
+use definition::cells::ChartColumn;
+use definition::cells::StateColumn;
+use definition::cells::TransitionColumn;
+use definition::codes::ListKind;
 use printing::put_bytes;
 use printing::put_list_line;
 use printing::put_name_line;
@@ -17,11 +21,6 @@ ghost use Rattle.definition.specs.Rows.{num};
 ghost use Rattle.printing.specs.Added.{Added};
 ghost use Rattle.printing.specs.Lines.{line};
 ghost use Rattle.listing.specs.Listing.{stateLines, statesFrom, typeWord, transitionLines, transitionsFrom, listing, refusal};
-
-// Lists by number, as a member's row has them.
-const CHILDREN: u32 = 1;
-
-const TARGETS: u32 = 6;
 
 fn put_cell_line(out: &mut [u8], at: usize, head: &[u8], n: u32) -> usize
     requires { ⌜ at ≤ length (now out) ⌝ }
@@ -42,11 +41,16 @@ fn put_state(
     ensures { λ r. ⌜ Added (now (out .entry)) at (now (out .exit)) r (stateLines (now (text .entry)) (now (members .entry)) n row) ⌝ }
 {
     let a = put_cell_line(out, at, b"state=", n);
-    let b = put_name_line(out, a, b"name=", text_from(text, row[0], row[1]));
-    let c = put_cell_line(out, b, b"parent=", row[4]);
-    let d = put_cell_line(out, c, b"initial=", row[3]);
-    let e = put_cell_line(out, d, b"doc=", row[2]);
-    put_list_line(out, e, b"children=", members, CHILDREN, n)
+    let b = put_name_line(
+        out,
+        a,
+        b"name=",
+        text_from(text, row[StateColumn::NAME], row[StateColumn::NAME_LENGTH]),
+    );
+    let c = put_cell_line(out, b, b"parent=", row[StateColumn::PARENT]);
+    let d = put_cell_line(out, c, b"initial=", row[StateColumn::INITIAL]);
+    let e = put_cell_line(out, d, b"doc=", row[StateColumn::DOC]);
+    put_list_line(out, e, b"children=", members, ListKind::CHILDREN, n)
 }
 
 fn put_states(
@@ -99,12 +103,19 @@ fn put_transition(out: &mut [u8], at: usize, members: &[[u32; 8]], row: [u32; 8]
     requires { ⌜ at ≤ length (now out) ⌝ }
     ensures { λ r. ⌜ Added (now (out .entry)) at (now (out .exit)) r (transitionLines (now (members .entry)) row) ⌝ }
 {
-    let a = put_cell_line(out, at, b"transition=", row[0]);
-    let b = put_cell_line(out, a, b"source=", row[2]);
-    let c = put_list_line(out, b, b"targets=", members, TARGETS, row[0]);
-    let d = put_type_line(out, c, row[3]);
-    let e = put_cell_line(out, d, b"doc=", row[1]);
-    put_cell_line(out, e, b"content=", row[5])
+    let a = put_cell_line(out, at, b"transition=", row[TransitionColumn::NUMBER]);
+    let b = put_cell_line(out, a, b"source=", row[TransitionColumn::SOURCE]);
+    let c = put_list_line(
+        out,
+        b,
+        b"targets=",
+        members,
+        ListKind::TARGETS,
+        row[TransitionColumn::NUMBER],
+    );
+    let d = put_type_line(out, c, row[TransitionColumn::TYPE]);
+    let e = put_cell_line(out, d, b"doc=", row[TransitionColumn::DOC]);
+    put_cell_line(out, e, b"content=", row[TransitionColumn::CONTENT])
 }
 
 fn put_transitions(
@@ -131,7 +142,7 @@ fn root_of(charts: &[[u32; 24]]) -> u32
     if charts.len() == 0 {
         return 0;
     }
-    charts[0][0]
+    charts[0][ChartColumn::ROOT]
 }
 
 /// The rows in use, listed: how many bytes of the buffer are to be printed, and what they are.

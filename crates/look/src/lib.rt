@@ -1,5 +1,7 @@
 // Stage 1: all that is read of an event's text and of the tables by name, as numbers. The slices are the parts in use.
 use definition::Position;
+use definition::cells::ChartColumn;
+use definition::cells::OpenColumn;
 use heard::ask;
 use heard::first_no;
 use heard::found;
@@ -33,13 +35,6 @@ pub struct Looked {
     pub charge: usize,
 }
 
-// Columns of an open element, and of the chart's row.
-const TAG: usize = 0;
-
-const STATE: usize = 1;
-
-const ROOT: usize = 0;
-
 // A cell of the innermost open element; 0 where nothing is open.
 fn inside(opened: &[[u32; 8]], c: usize) -> u32
     requires { ⌜ c < 8 ⌝ }
@@ -59,7 +54,7 @@ fn root_of(chart: &[[u32; 24]]) -> u32
     if chart.len() == 0 {
         return 0;
     }
-    chart[0][ROOT]
+    chart[0][ChartColumn::ROOT]
 }
 
 pub fn look(
@@ -80,12 +75,12 @@ pub fn look(
     let drawn = position.names;
     let ix = index(p);
     let n = look_names(states, text, src, p, ix, drawn);
-    let f = found(datums, text, inside(opened, STATE), src, p, ix);
+    let f = found(datums, text, inside(opened, OpenColumn::STATE), src, p, ix);
     let own = n.own;
     let h = heard(src, p, ix, own as u32, f as u32);
     let q = ask(src, p, ix);
     let inner = is_innermost(opened, open_names, p.tag, bytes_of(src, p.name));
-    let parent = inside(opened, TAG);
+    let parent = inside(opened, OpenColumn::TAG);
     let root = root_of(chart);
     let no = first_no(h, q, inner, position.opened, parent, root);
     let made = is_made(src, p, ix);

@@ -1,7 +1,8 @@
 // State names: the row that has a name, and the names that an event brings: how many, and how many of them are new.
-use nesting::Key;
-use nesting::Kind;
-use nesting::Tag;
+use definition::cells::StateColumn;
+use definition::codes::Key;
+use definition::codes::Kind;
+use definition::codes::Tag;
 use nesting::names_state;
 use plain::Plain;
 use plain::has;
@@ -23,11 +24,6 @@ ghost use Rattle.definition.specs.Look.{findName, nameCells};
 ghost use Rattle.plain.specs.Plain.{slotsOf, parsedIn};
 ghost use Rattle.plain.specs.Keyed.{indexOf};
 ghost use Rattle.names.specs.Names.{wordsFrom, occurs, newIf, firstNonzero, counted, stateNames, namesIn};
-
-// Columns of a state: its name's cell.
-const NAME: usize = 0;
-
-const NAME_LENGTH: usize = 1;
 
 // Whether the text of a cell is w. Of a cell inside the text the lengths are compared first, then the last bytes: names often begin alike.
 pub fn is_at(text: &[u8], at: u32, len: u32, w: &[u8]) -> bool
@@ -63,8 +59,8 @@ pub fn find_state(states: &[[u32; 24]], count: usize, text: &[u8], w: &[u8]) -> 
 {
     let mut i = 0;
     while i < count {
-        let at = states[i][NAME];
-        let len = states[i][NAME_LENGTH];
+        let at = states[i][StateColumn::NAME];
+        let len = states[i][StateColumn::NAME_LENGTH];
         if is_at(text, at, len, w) {
             return i;
         }

@@ -1,6 +1,10 @@
 // Question 2 beside the columns: numbers that rise, names that are distinct, open elements.
 use columns::Known;
 use definition::Chart;
+use definition::cells::OpenColumn;
+use definition::cells::OpenRegionColumn;
+use definition::cells::StateColumn;
+use definition::codes::Tag;
 use elements::tag_of;
 use rows::index;
 use rows::text_from;
@@ -17,13 +21,6 @@ ghost use Rattle.definition.specs.Look.{findName, nameCells};
 ghost use Rattle.definition.specs.Rules as R;
 ghost use Rattle.columns.specs.Sees.{Rising, RowTest, RowsTest};
 ghost use Rattle.order.specs.Hash.{hashFrom, hashOf, Hashed};
-
-// Elements by number.
-const ELSEIF: u32 = 13;
-
-const IF: u32 = 24;
-
-const FOREACH: u32 = 25;
 
 /// Numbers rise along a table.
 pub fn rises(t: &[[u32; 8]]) -> bool
@@ -105,7 +102,14 @@ fn find_name(text: &[u8], states: &[[u32; 24]], hashes: &[u32], h: u32, name: &[
 {
     let mut i = 0;
     while i < states.len() {
-        if is_named(text, states[i][0], states[i][1], hashes[i], h, name) {
+        if is_named(
+            text,
+            states[i][StateColumn::NAME],
+            states[i][StateColumn::NAME_LENGTH],
+            hashes[i],
+            h,
+            name,
+        ) {
             return i;
         }
         i += 1;
@@ -121,7 +125,11 @@ pub fn names_lead(text: &[u8], states: &[[u32; 24]]) -> bool
     let mut hashes = [0u32; Chart::STATES as usize];
     let mut i = 0;
     while i < states.len() {
-        let name = text_from(text, states[i][0], states[i][1]);
+        let name = text_from(
+            text,
+            states[i][StateColumn::NAME],
+            states[i][StateColumn::NAME_LENGTH],
+        );
         let h = hash(name);
         if find_name(text, &states[..i], &hashes, h, name) != i {
             return false;
@@ -135,7 +143,7 @@ pub fn names_lead(text: &[u8], states: &[[u32; 24]]) -> bool
 fn is_block(tag: u32) -> bool
     ensures { λ r. ⌜ r ≡ R.isBlock tag ⌝ }
 {
-    (tag == IF) | (tag == FOREACH)
+    (tag == Tag::IF) | (tag == Tag::FOREACH)
 }
 
 /// How many rows have if or foreach in a column.
@@ -163,8 +171,8 @@ pub fn open_tags_fit(t: &[[u32; 8]]) -> bool
     let mut below = 0;
     let mut i = 0;
     while i < t.len() {
-        let tag = t[i][1];
-        if !(is_block(tag) | ((tag == ELSEIF) & (below == IF))) {
+        let tag = t[i][OpenRegionColumn::TAG];
+        if !(is_block(tag) | ((tag == Tag::ELSEIF) & (below == Tag::IF))) {
             return false;
         }
         below = tag;
@@ -177,7 +185,7 @@ fn unknown_fits(row: [u32; 8], name: &[u8]) -> bool
     requires { ⌜ length (now name) ≡ 64 ⌝ }
     ensures { λ r. ⌜ r ≡ R.unknownFits limits01 row (now (name .entry)) ⌝ }
 {
-    let n = index(row[3]);
+    let n = index(row[OpenColumn::LENGTH]);
     if n < 1 {
         return false;
     }
@@ -191,7 +199,7 @@ fn unknown_fits(row: [u32; 8], name: &[u8]) -> bool
 fn open_name_fits(row: [u32; 8], name: [u8; 64]) -> bool
     ensures { λ r. ⌜ r ≡ (not (eqb (num row 0) 0) || R.unknownFits limits01 row name) ⌝ }
 {
-    if row[0] != 0 {
+    if row[OpenColumn::TAG] != 0 {
         return true;
     }
     unknown_fits(row, &name)

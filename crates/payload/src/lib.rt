@@ -1,7 +1,7 @@
 // What an accepted event adds to the text, behind what is in use: its values, its text, a generated name; and what they are charged.
-use nesting::Key;
-use nesting::Kind;
-use nesting::Tag;
+use definition::codes::Key;
+use definition::codes::Kind;
+use definition::codes::Tag;
 use nesting::names_state;
 use plain::Plain;
 use plain::bytes_of;

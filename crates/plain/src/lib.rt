@@ -1,8 +1,8 @@
 // An event's parts as they are read: each stands unescaped in one slice, the event's own bytes or a copy.
+use definition::codes::Kind;
 use event::Described;
 use lines::part_of;
 use lines::unescape;
-use nesting::Kind;
 use parts::Part;
 use parts::place;
 ghost use mathlib.Core.Path.{_≡_};

@@ -1,4 +1,5 @@
 // Bytes, numbers, names and lists as the program `chartlist` prints them, put into a lent buffer from the front. What does not fit is left out.
+use definition::cells::MemberColumn;
 ghost use mathlib.Core.Path.{_≡_};
 ghost use mathlib.Core.Bool.{true};
 ghost use mathlib.Core.List.{[], _∷_, _++_};
@@ -108,7 +109,7 @@ fn next_member(members: &[[u32; 8]], from: usize, list: u32, owner: u32) -> usiz
 {
     let mut i = from;
     while i < members.len() {
-        if (members[i][0] == list) & (members[i][1] == owner) {
+        if (members[i][MemberColumn::LIST] == list) & (members[i][MemberColumn::OWNER] == owner) {
             return i;
         }
         i += 1;
@@ -135,7 +136,7 @@ fn put_list(out: &mut [u8], at: usize, members: &[[u32; 8]], list: u32, owner: u
     let mut first = true;
     let mut i = next_member(members, 0, list, owner);
     while i < members.len() {
-        p = put_item(out, p, first, wide(members[i][2]));
+        p = put_item(out, p, first, wide(members[i][MemberColumn::VALUE]));
         first = false;
         i = next_member(members, i + 1, list, owner);
     }

@@ -3,6 +3,12 @@ use definition::Position;
 use definition::RegionId;
 use definition::StateId;
 use definition::TransitionId;
+use definition::cells::ChartColumn;
+use definition::cells::EntryColumn;
+use definition::cells::InvokeColumn;
+use definition::cells::ParameterColumn;
+use definition::cells::StateColumn;
+use definition::codes::OwnerKind;
 use rows::first_8;
 use rows::first_24;
 use rows::first_48;
@@ -48,8 +54,6 @@ pub const WIDTH: usize = 50;
 pub const BYTES: usize = 200;
 
 // Whose parameter it is.
-const DONEDATA: u32 = 3;
-
 pub struct Reading {
     pub number: u32,
     pub row: [u32; WIDTH],
@@ -150,7 +154,7 @@ fn read_chart(chart: &[[u32; 24]], number: u32) -> Reading
     if place == 0 {
         return refuse(16);
     }
-    if chart[0][0] == 0 {
+    if chart[0][ChartColumn::ROOT] == 0 {
         return refuse(16);
     }
     at_24(chart, place)
@@ -183,7 +187,11 @@ fn entry_at(entries: &[[u32; 48]], states: &[[u32; 24]], place: usize) -> Readin
         return refuse(16);
     }
     let at = place - 1;
-    let row = show_48(entries[at], states, StateId(entries[at][2]));
+    let row = show_48(
+        entries[at],
+        states,
+        StateId(entries[at][EntryColumn::STATE]),
+    );
     Reading {
         number: 0,
         row: row,
@@ -198,7 +206,11 @@ fn invoke_at(invokes: &[[u32; 24]], states: &[[u32; 24]], place: usize) -> Readi
         return refuse(16);
     }
     let at = place - 1;
-    let row = show_24(invokes[at], states, StateId(invokes[at][0]));
+    let row = show_24(
+        invokes[at],
+        states,
+        StateId(invokes[at][InvokeColumn::STATE]),
+    );
     Reading {
         number: 0,
         row: row,
@@ -209,7 +221,13 @@ fn invoke_at(invokes: &[[u32; 24]], states: &[[u32; 24]], place: usize) -> Readi
 fn has_left(row: [u32; 8], states: &[[u32; 24]], number: u32) -> bool
     ensures { λ r. ⌜ r ≡ (eqb (num row 0) 3 && ltb number (num (rowOf (now (states .entry)) (num row 1)) 8)) ⌝ }
 {
-    (row[0] == DONEDATA) & (number < state_cell(states, StateId(row[1]), 8))
+    (row[ParameterColumn::KIND] == OwnerKind::DONEDATA)
+        & (number
+            < state_cell(
+                states,
+                StateId(row[ParameterColumn::OWNER]),
+                StateColumn::DONEDATA,
+            ))
 }
 
 fn read_parameter(parameters: &[[u32; 8]], states: &[[u32; 24]], number: u32) -> Reading

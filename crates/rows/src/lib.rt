@@ -57,14 +57,20 @@ pub fn first_names(names: &[[u8; 64]], n: u32) -> &[[u8; 64]]
     names
 }
 
+/// The first n bytes, as far as there are so many.
+pub fn leading(text: &[u8], n: usize) -> &[u8]
+    ensures { λ r. ⌜ now r ≡ take n (now (text .entry)) ⌝ }
+{
+    if n <= text.len() {
+        return &text[..n];
+    }
+    text
+}
+
 pub fn first_bytes(text: &[u8], n: u32) -> &[u8]
     ensures { λ r. ⌜ now r ≡ take n (now (text .entry)) ⌝ }
 {
-    let k = index(n);
-    if k <= text.len() {
-        return &text[..k];
-    }
-    text
+    leading(text, index(n))
 }
 
 /// A cell of a state's row.

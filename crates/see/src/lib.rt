@@ -3,12 +3,19 @@ use definition::Position;
 use definition::RegionId;
 use definition::StateId;
 use definition::TransitionId;
+use definition::cells::ChartColumn;
+use definition::cells::EntryColumn;
+use definition::cells::InvokeColumn;
+use definition::cells::MemberColumn;
+use definition::cells::OpenColumn;
+use definition::cells::OpenRegionColumn;
+use definition::cells::StateColumn;
+use definition::codes::EntryKind;
+use definition::codes::ListKind;
+use definition::codes::Tag;
 use opens::Open;
 use plan::Closing;
-use plan::EntryKind;
-use plan::ListKind;
 use plan::Seen;
-use plan::Tag;
 use plan::Walked;
 use rows::index;
 use rows::state_cell;
@@ -25,41 +32,6 @@ ghost use Rattle.see.specs.Scans.{walkOver, isChildIn};
 ghost use Rattle.see.specs.Masked.{numberIf, boolIf, walkedIf, isElse, isPart, isInvoked, isChildish};
 ghost use Rattle.see.specs.View.{walkAfter, defaultFor, familyOf, insideOf, seenBy, Short};
 
-/// Columns that are read, by table.
-pub struct Column {}
-
-impl Column {
-    pub const CHART_ROOT: usize = 0;
-
-    pub const STATE_INITIAL: usize = 3;
-
-    pub const STATE_DONEDATA: usize = 8;
-
-    pub const ENTRY_REGION: usize = 0;
-
-    pub const ENTRY_KIND: usize = 1;
-
-    pub const ENTRY_ELSE: usize = 4;
-
-    pub const INVOKE_STATE: usize = 0;
-
-    pub const MEMBER_LIST: usize = 0;
-
-    pub const MEMBER_OWNER: usize = 1;
-
-    pub const MEMBER_VALUE: usize = 2;
-
-    pub const OPENED_TAG: usize = 0;
-
-    pub const OPENED_STATE: usize = 1;
-
-    pub const OPENED_TRANSITION: usize = 2;
-
-    pub const OPEN_REGION_REGION: usize = 0;
-
-    pub const OPEN_REGION_TAG: usize = 1;
-}
-
 /// The chart's root; 0 where there is no row.
 fn root_of(chart: &[[u32; 24]]) -> StateId
     ensures { λ r. ⌜ r ≡ stateId (num (getD (now (chart .entry)) 0 []) 0) ⌝ }
@@ -67,7 +39,7 @@ fn root_of(chart: &[[u32; 24]]) -> StateId
     if chart.len() == 0 {
         return StateId(0);
     }
-    StateId(chart[0][Column::CHART_ROOT])
+    StateId(chart[0][ChartColumn::ROOT])
 }
 
 /// The record of the innermost open element.
@@ -79,9 +51,9 @@ fn inside(opened: &[[u32; 8]]) -> Open
     }
     let last = opened.len() - 1;
     opens::opened(
-        StateId(opened[last][Column::OPENED_STATE]),
-        TransitionId(opened[last][Column::OPENED_TRANSITION]),
-        opened[last][Column::OPENED_TAG],
+        StateId(opened[last][OpenColumn::STATE]),
+        TransitionId(opened[last][OpenColumn::TRANSITION]),
+        opened[last][OpenColumn::TAG],
     )
 }
 
@@ -94,7 +66,7 @@ fn entry_kind(entries: &[[u32; 48]], e: u32) -> u32
     }
     let at = index(e - 1);
     if at < entries.len() {
-        return entries[at][Column::ENTRY_KIND];
+        return entries[at][EntryColumn::KIND];
     }
     0
 }
@@ -130,8 +102,8 @@ fn close_region(tag: u32, open_regions: &[[u32; 8]], k: u32, current: RegionId) 
     }
     let at = k - 1;
     let row = index(at);
-    let outer = RegionId(open_regions[row][Column::OPEN_REGION_REGION]);
-    if open_regions[row][Column::OPEN_REGION_TAG] == tag {
+    let outer = RegionId(open_regions[row][OpenRegionColumn::REGION]);
+    if open_regions[row][OpenRegionColumn::TAG] == tag {
         return Closing {
             met: 1,
             current: outer,
@@ -149,7 +121,7 @@ fn last_entry(entries: &[[u32; 48]], region: RegionId) -> u32
 {
     let mut k = entries.len();
     while 0 < k {
-        if entries[k - 1][Column::ENTRY_REGION] == region.0 {
+        if entries[k - 1][EntryColumn::REGION] == region.0 {
             return k as u32;
         }
         k -= 1;
@@ -164,7 +136,7 @@ fn last_invoke(invokes: &[[u32; 24]], state: StateId) -> u32
 {
     let mut k = invokes.len();
     while 0 < k {
-        if invokes[k - 1][Column::INVOKE_STATE] == state.0 {
+        if invokes[k - 1][InvokeColumn::STATE] == state.0 {
             return k as u32;
         }
         k -= 1;
@@ -185,10 +157,10 @@ fn else_walk(entries: &[[u32; 48]], steps: u32, region: RegionId) -> Walked
             return Walked { met: 0, at: 0 };
         }
         let row = index(e - 1);
-        if entries[row][Column::ENTRY_KIND] != EntryKind::IF {
+        if entries[row][EntryColumn::KIND] != EntryKind::IF {
             return Walked { met: 0, at: 0 };
         }
-        let other = entries[row][Column::ENTRY_ELSE];
+        let other = entries[row][EntryColumn::ELSE];
         if other == 0 {
             return Walked { met: 1, at: e };
         }
@@ -204,10 +176,10 @@ fn first_child(members: &[[u32; 8]], d: u32, s: StateId) -> u32
 {
     let mut i = 0;
     while i < members.len() {
-        if (members[i][Column::MEMBER_LIST] == ListKind::CHILDREN)
-            & (members[i][Column::MEMBER_OWNER] == s.0)
+        if (members[i][MemberColumn::LIST] == ListKind::CHILDREN)
+            & (members[i][MemberColumn::OWNER] == s.0)
         {
-            return members[i][Column::MEMBER_VALUE];
+            return members[i][MemberColumn::VALUE];
         }
         i += 1;
     }
@@ -220,9 +192,9 @@ fn is_child(members: &[[u32; 8]], p: StateId, s: StateId) -> bool
 {
     let mut k = members.len();
     while 0 < k {
-        if (members[k - 1][Column::MEMBER_LIST] == ListKind::CHILDREN)
-            & (members[k - 1][Column::MEMBER_OWNER] == p.0)
-            & (s.0 == members[k - 1][Column::MEMBER_VALUE])
+        if (members[k - 1][MemberColumn::LIST] == ListKind::CHILDREN)
+            & (members[k - 1][MemberColumn::OWNER] == p.0)
+            & (s.0 == members[k - 1][MemberColumn::VALUE])
         {
             return true;
         }
@@ -339,7 +311,7 @@ fn kin_of(tag: u32, members: &[[u32; 8]], state: StateId, root: StateId, own: St
 fn initial_of(states: &[[u32; 24]], s: StateId) -> TransitionId
     ensures { λ r. ⌜ r ≡ transitionId (num (rowOf (now (states .entry)) (s .0)) 3) ⌝ }
 {
-    TransitionId(state_cell(states, s, Column::STATE_INITIAL))
+    TransitionId(state_cell(states, s, StateColumn::INITIAL))
 }
 
 /// All that is seen for an element that names the state own.
@@ -390,7 +362,7 @@ pub fn see(
         invoke: invoke_for(tag, invokes, state),
         place: place_for(tag, transitions, transition),
         initial: initial_of(states, state),
-        donedata: state_cell(states, state, Column::STATE_DONEDATA),
+        donedata: state_cell(states, state, StateColumn::DONEDATA),
         first: first,
         root: root,
         begins: initial_of(states, root),

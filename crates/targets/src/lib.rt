@@ -1,9 +1,12 @@
 // The names that an event brings: rows of states for new ones, members for the targets. They are read from the text after the event: no list of references is kept.
+use definition::cells::MemberColumn;
+use definition::cells::StateColumn;
+use definition::codes::Key;
+use definition::codes::Kind;
+use definition::codes::ListKind;
+use definition::codes::Tag;
 use fill::TextCell;
 use names::find_state;
-use nesting::Key;
-use nesting::Kind;
-use nesting::Tag;
 use nesting::names_state;
 use rows::index;
 use texts::key_cell;
@@ -20,16 +23,13 @@ ghost use Rattle.fill.specs.Fill.{asCell};
 ghost use Rattle.targets.specs.Enter.{placedRow, countAfter, memberRow, Room, Entered};
 ghost use Rattle.targets.specs.Names.{piecesAt, ownPiece, piecesIn, skipOf, NameRoom, NamesWritten, InText, OwnIn, TargetsIn};
 
-// The list of targets, among the lists of members.
-const TARGETS: u32 = 6;
-
 fn put_state(states: &mut [[u32; 24]], i: usize, at: u32, len: u32)
     requires { ⌜ i < length (now states) ⌝ }
     ensures { λ _. ⌜ now (states .exit) ≡ set (now (states .entry)) i (stateRow (record { at = at; len = len })) ⌝ }
 {
     let mut row = [0u32; 24];
-    row[0] = at;
-    row[1] = len;
+    row[StateColumn::NAME] = at;
+    row[StateColumn::NAME_LENGTH] = len;
     states[i] = row;
 }
 
@@ -38,9 +38,9 @@ fn put_member(members: &mut [[u32; 8]], i: usize, kind: u32, owner: u32, value: 
     ensures { λ _. ⌜ now (members .exit) ≡ set (now (members .entry)) i (memberRow kind owner value) ⌝ }
 {
     let mut row = [0u32; 8];
-    row[0] = kind;
-    row[1] = owner;
-    row[2] = value;
+    row[MemberColumn::LIST] = kind;
+    row[MemberColumn::OWNER] = owner;
+    row[MemberColumn::VALUE] = value;
     members[i] = row;
 }
 
@@ -107,7 +107,7 @@ fn enter_targets(
             };
         }
         let k = enter_name(states, n, text, off + start, stop - start);
-        put_member(members, m, TARGETS, owner, (k + 1) as u32);
+        put_member(members, m, ListKind::TARGETS, owner, (k + 1) as u32);
         n = count_after(n, k);
         m += 1;
         at = stop;

@@ -1,15 +1,8 @@
 // Text: classes of bytes, equality, letter case, and the words that are read as a code.
 ghost use mathlib.Core.Path.{_≡_};
 ghost use Rattle.definition.specs.Text as T;
-ghost use Rattle.definition.specs.Text.{isAllowed, isSpace, isSeparator, bytesAt, lowered, isTrue, placeIn};
+ghost use Rattle.definition.specs.Text.{isSpace, isSeparator, bytesAt, lowered, isTrue, placeIn};
 ghost use Rattle.definition.specs.Elements.{tag, key, codings, wordsTaken};
-
-// Whether charts may hold the byte: 0 to 127.
-pub fn is_ascii(b: u8) -> bool
-    ensures { λ r. ⌜ r ≡ isAllowed b ⌝ }
-{
-    b < 128
-}
 
 // White space between event words and around contents: 9 to 13 and 32.
 pub fn is_space(b: u8) -> bool

@@ -1,10 +1,10 @@
 // The table of an event's texts: for each key where its value lies in the text after the event, and where the event's own text does.
+use definition::codes::Kind;
+use definition::codes::Tag;
 use fill::TextCell;
 use fill::get;
 use fill::put;
 use lines::part_of;
-use nesting::Kind;
-use nesting::Tag;
 use parts::place;
 use payload::Ends;
 use plain::Plain;

@@ -1,7 +1,7 @@
 // An event's words as members of a list: a transition's events, the names of a send and of an invoke.
+use definition::codes::Key;
+use definition::codes::Tag;
 use fill::TextCell;
-use nesting::Key;
-use nesting::Tag;
 use plan::MemberPlan;
 use rows::index;
 use rows::text_from;

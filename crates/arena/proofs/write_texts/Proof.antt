@@ -8,7 +8,7 @@ use Rattle.arena.proofs.write_texts.Reads as reads
 use Rattle.arena.proofs.write_texts.Lts as lts
 use Rattle.rows.proofs.index.Reads as index-reads
 use Rattle.payload.proofs.append_event.Reads as append-event-reads
-use Rattle.arena.proofs.in_use.Reads as in-use-reads
+use Rattle.rows.proofs.leading.Reads as leading-reads
 use Rattle.texts.proofs.texts_of.Reads as texts-of-reads
 use Rattle.targets.proofs.write_names.Reads as write-names-reads
 use Rattle.wordlists.proofs.write_words.Reads as write-words-reads
@@ -22,8 +22,8 @@ append-event-requires c κs = search needs
 texts-of-requires : tie.Need-texts-of-requires
 texts-of-requires c κs = ended (c .before .before .before .before .before .before .before .args .p) (parsedIn (c .before .before .before .before .before .before .before .args .src .now) (c .before .before .before .before .before .before .before .args .pl)) (c .before .before .before .before .before .before .before .args .states .now) (c .before .before .before .before .before .before .before .args .members .now) (c .before .before .before .before .before .before .before .args .text .now) (c .before .before .before .before .before .before .before .args .made) (c .before .before .before .before .before .before .before .args .m) (c .before .before .before .before .before .before .before .pre) _ (c .before .before .before .before .index .ensures .0) _ (c .before .before .append-event .ensures .0) _ (c .before .before .append-event .ensures .1)
 
-in-use-requires : tie.Need-in-use-requires
-in-use-requires c κs = search needs
+leading-requires : tie.Need-leading-requires
+leading-requires c κs = search needs
 
 index-requires-2 : tie.Need-index-requires-2
 index-requires-2 c κs = search needs
@@ -35,14 +35,14 @@ slice-aggregate-write-words : tie.Need-slice-aggregate-write-words
 slice-aggregate-write-words c = search needs
 
 write-words-requires : tie.Need-write-words-requires
-write-words-requires c κs = (omega (arith, c .before .before .before .index2 .ensures .0, c .before .before .before .before .before .before .before .before .before .before .before .before .before .before .before .pre .members), arena-short (c .before .before .before .before .before .before .before .before .before .before .before .before .before .before .before .args .p) (parsedIn (c .before .before .before .before .before .before .before .before .before .before .before .before .before .before .before .args .src .now) (c .before .before .before .before .before .before .before .before .before .before .before .before .before .before .before .args .pl)) (c .before .before .before .before .before .before .before .before .before .before .before .before .before .before .before .args .states .now) (c .before .before .before .before .before .before .before .before .before .before .before .before .before .before .before .args .members .now) (c .before .before .before .before .before .before .before .before .before .before .before .before .before .before .before .args .text .now) (c .before .before .before .before .before .before .before .before .before .before .before .before .before .before .before .args .made) (c .before .before .before .before .before .before .before .before .before .before .before .before .before .before .before .args .m) (c .before .before .before .before .before .before .before .before .before .before .before .before .before .before .before .pre) _ (c .before .before .before .before .before .before .before .before .before .before .before .before .index .ensures .0) _ (c .before .before .before .before .before .before .before .before .before .before .append-event .ensures .0) _ (c .before .before .before .before .before .before .before .before .before .before .append-event .ensures .1) _ (c .before .before .before .before .in-use .ensures))
+write-words-requires c κs = (omega (arith, c .before .before .before .index2 .ensures .0, c .before .before .before .before .before .before .before .before .before .before .before .before .before .before .before .pre .members), arena-short (c .before .before .before .before .before .before .before .before .before .before .before .before .before .before .before .args .p) (parsedIn (c .before .before .before .before .before .before .before .before .before .before .before .before .before .before .before .args .src .now) (c .before .before .before .before .before .before .before .before .before .before .before .before .before .before .before .args .pl)) (c .before .before .before .before .before .before .before .before .before .before .before .before .before .before .before .args .states .now) (c .before .before .before .before .before .before .before .before .before .before .before .before .before .before .before .args .members .now) (c .before .before .before .before .before .before .before .before .before .before .before .before .before .before .before .args .text .now) (c .before .before .before .before .before .before .before .before .before .before .before .before .before .before .before .args .made) (c .before .before .before .before .before .before .before .before .before .before .before .before .before .before .before .args .m) (c .before .before .before .before .before .before .before .before .before .before .before .before .before .before .before .pre) _ (c .before .before .before .before .before .before .before .before .before .before .before .before .index .ensures .0) _ (c .before .before .before .before .before .before .before .before .before .before .append-event .ensures .0) _ (c .before .before .before .before .before .before .before .before .before .before .append-event .ensures .1) _ (c .before .before .before .before .leading .ensures))
 
 slice-aggregate-write-names : tie.Need-slice-aggregate-write-names
 slice-aggregate-write-names c = search needs
 
 write-names-requires : tie.Need-write-names-requires
 unfolding parsedIn
-write-names-requires c κs = names-asked (c .before .before .before .before .before .before .before .before .before .before .before .before .before .before .before .before .before .before .before .before .args .p) (parsedIn (c .before .before .before .before .before .before .before .before .before .before .before .before .before .before .before .before .before .before .before .before .args .src .now) (c .before .before .before .before .before .before .before .before .before .before .before .before .before .before .before .before .before .before .before .before .args .pl)) (c .before .before .before .before .before .before .before .before .before .before .before .before .before .before .before .before .before .before .before .before .args .states .now) (c .before .before .before .before .before .before .before .before .before .before .before .before .before .before .before .before .before .before .before .before .args .members .now) (c .before .before .before .before .before .before .before .before .before .before .before .before .before .before .before .before .before .before .before .before .args .text .now) (c .before .before .before .before .before .before .before .before .before .before .before .before .before .before .before .before .before .before .before .before .args .made) (c .before .before .before .before .before .before .before .before .before .before .before .before .before .before .before .before .before .before .before .before .args .m) (c .before .before .before .before .before .before .before .before .before .before .before .before .before .before .before .before .before .before .before .before .pre) _ (c .before .before .before .before .before .before .before .before .before .before .before .before .before .before .before .before .before .index .ensures .0) _ (c .before .before .before .before .before .before .before .before .before .before .before .before .before .before .before .append-event .ensures .0) _ (c .before .before .before .before .before .before .before .before .before .before .before .before .before .before .before .append-event .ensures .1) _ (c .before .before .before .before .before .before .before .before .before .in-use .ensures) _ (c .before .before .before .before .before .before .before .before .before .before .before .before .texts-of .ensures) _ _ _ (c .before .before .before .before .before .before .before .before .index2 .ensures .0) (c .before .before .before .before .before .before .before .index3 .ensures .0) (c .before .before .before .before .write-words .ensures .0) _ (c .before .before .before .before .write-words .ensures .1)
+write-names-requires c κs = names-asked (c .before .before .before .before .before .before .before .before .before .before .before .before .before .before .before .before .before .before .before .before .args .p) (parsedIn (c .before .before .before .before .before .before .before .before .before .before .before .before .before .before .before .before .before .before .before .before .args .src .now) (c .before .before .before .before .before .before .before .before .before .before .before .before .before .before .before .before .before .before .before .before .args .pl)) (c .before .before .before .before .before .before .before .before .before .before .before .before .before .before .before .before .before .before .before .before .args .states .now) (c .before .before .before .before .before .before .before .before .before .before .before .before .before .before .before .before .before .before .before .before .args .members .now) (c .before .before .before .before .before .before .before .before .before .before .before .before .before .before .before .before .before .before .before .before .args .text .now) (c .before .before .before .before .before .before .before .before .before .before .before .before .before .before .before .before .before .before .before .before .args .made) (c .before .before .before .before .before .before .before .before .before .before .before .before .before .before .before .before .before .before .before .before .args .m) (c .before .before .before .before .before .before .before .before .before .before .before .before .before .before .before .before .before .before .before .before .pre) _ (c .before .before .before .before .before .before .before .before .before .before .before .before .before .before .before .before .before .index .ensures .0) _ (c .before .before .before .before .before .before .before .before .before .before .before .before .before .before .before .append-event .ensures .0) _ (c .before .before .before .before .before .before .before .before .before .before .before .before .before .before .before .append-event .ensures .1) _ (c .before .before .before .before .before .before .before .before .before .leading .ensures) _ (c .before .before .before .before .before .before .before .before .before .before .before .before .texts-of .ensures) _ _ _ (c .before .before .before .before .before .before .before .before .index2 .ensures .0) (c .before .before .before .before .before .before .before .index3 .ensures .0) (c .before .before .before .before .write-words .ensures .0) _ (c .before .before .before .before .write-words .ensures .1)
 
 same-length : tie.Need-same-length
 same-length c = search needs
@@ -55,7 +55,7 @@ same-length-3 c = search needs
 
 returns : tie.Need-returns
 unfolding parsedIn
-returns c = all-stored (c .before .before .before .before .before .before .before .before .before .before .before .before .before .before .before .before .before .before .before .before .before .before .before .args .p) (parsedIn (c .before .before .before .before .before .before .before .before .before .before .before .before .before .before .before .before .before .before .before .before .before .before .before .args .src .now) (c .before .before .before .before .before .before .before .before .before .before .before .before .before .before .before .before .before .before .before .before .before .before .before .args .pl)) (c .before .before .before .before .before .before .before .before .before .before .before .before .before .before .before .before .before .before .before .before .before .before .before .args .states .now) (c .before .before .before .before .before .before .before .before .before .before .before .before .before .before .before .before .before .before .before .before .before .before .before .args .members .now) (c .before .before .before .before .before .before .before .before .before .before .before .before .before .before .before .before .before .before .before .before .before .before .before .args .text .now) (c .before .before .before .before .before .before .before .before .before .before .before .before .before .before .before .before .before .before .before .before .before .before .before .args .made) (c .before .before .before .before .before .before .before .before .before .before .before .before .before .before .before .before .before .before .before .before .before .before .before .args .m) (c .before .before .before .before .before .before .before .before .before .before .before .before .before .before .before .before .before .before .before .before .before .before .before .pre) _ (c .before .before .before .before .before .before .before .before .before .before .before .before .before .before .before .before .before .before .before .before .index .ensures .0) _ (c .before .before .before .before .before .before .before .before .before .before .before .before .before .before .before .before .before .before .append-event .ensures .0) _ (c .before .before .before .before .before .before .before .before .before .before .before .before .before .before .before .before .before .before .append-event .ensures .1) _ (c .before .before .before .before .before .before .before .before .before .before .before .before .in-use .ensures) _ (c .before .before .before .before .before .before .before .before .before .before .before .before .before .before .before .texts-of .ensures) _ _ _ (c .before .before .before .before .before .before .before .before .before .before .before .index2 .ensures .0) (c .before .before .before .before .before .before .before .before .before .before .index3 .ensures .0) (c .before .before .before .before .before .before .before .write-words .ensures .0) _ (c .before .before .before .before .before .before .before .write-words .ensures .1) _ _ _ _ (c .before .before .write-names .ensures)
+returns c = all-stored (c .before .before .before .before .before .before .before .before .before .before .before .before .before .before .before .before .before .before .before .before .before .before .before .args .p) (parsedIn (c .before .before .before .before .before .before .before .before .before .before .before .before .before .before .before .before .before .before .before .before .before .before .before .args .src .now) (c .before .before .before .before .before .before .before .before .before .before .before .before .before .before .before .before .before .before .before .before .before .before .before .args .pl)) (c .before .before .before .before .before .before .before .before .before .before .before .before .before .before .before .before .before .before .before .before .before .before .before .args .states .now) (c .before .before .before .before .before .before .before .before .before .before .before .before .before .before .before .before .before .before .before .before .before .before .before .args .members .now) (c .before .before .before .before .before .before .before .before .before .before .before .before .before .before .before .before .before .before .before .before .before .before .before .args .text .now) (c .before .before .before .before .before .before .before .before .before .before .before .before .before .before .before .before .before .before .before .before .before .before .before .args .made) (c .before .before .before .before .before .before .before .before .before .before .before .before .before .before .before .before .before .before .before .before .before .before .before .args .m) (c .before .before .before .before .before .before .before .before .before .before .before .before .before .before .before .before .before .before .before .before .before .before .before .pre) _ (c .before .before .before .before .before .before .before .before .before .before .before .before .before .before .before .before .before .before .before .before .index .ensures .0) _ (c .before .before .before .before .before .before .before .before .before .before .before .before .before .before .before .before .before .before .append-event .ensures .0) _ (c .before .before .before .before .before .before .before .before .before .before .before .before .before .before .before .before .before .before .append-event .ensures .1) _ (c .before .before .before .before .before .before .before .before .before .before .before .before .leading .ensures) _ (c .before .before .before .before .before .before .before .before .before .before .before .before .before .before .before .texts-of .ensures) _ _ _ (c .before .before .before .before .before .before .before .before .before .before .before .index2 .ensures .0) (c .before .before .before .before .before .before .before .before .before .before .index3 .ensures .0) (c .before .before .before .before .before .before .before .write-words .ensures .0) _ (c .before .before .before .before .before .before .before .write-words .ensures .1) _ _ _ _ (c .before .before .write-names .ensures)
 
 pub write-texts-spec : {M : Type 1} → statement M
 write-texts-spec =
@@ -64,7 +64,7 @@ write-texts-spec =
     index-requires
     append-event-requires
     texts-of-requires
-    in-use-requires
+    leading-requires
     index-requires-2
     index-requires-3
     slice-aggregate-write-words

@@ -4,7 +4,7 @@ use Rattle.heard.proofs.wildcard_of.Statement.{statement}
 use Rattle.heard.proofs.wildcard_of.Tie as tie
 use Rattle.heard.proofs.wildcard_of.Reads as reads
 use Rattle.heard.proofs.wildcard_of.Lts as lts
-use Rattle.heard.proofs.one_if.Reads as one-if-reads
+use Rattle.definition.proofs.one_if.Reads as one-if-reads
 use Rattle.words.proofs.is_wildcard.Reads as is-wildcard-reads
 
 -- src/lib.rt:81:23
@@ -17,7 +17,7 @@ one-if-requires c κs = search needs
 
 -- src/lib.rt:81:9
 returns : tie.Need-returns
-returns c = wildcard-here (c .before .before .before .before .args .v .now) (c .before .before .before .before .args .tag) (c .before .before .if1 .taken) _ _ (c .before .is-wildcard .ensures) (c .one-if .ensures)
+returns c = wildcard-here (c .before .before .before .before .args .v .now) (c .before .before .before .before .args .tag) (c .before .before .if1 .taken) _ _ (c .before .is-wildcard .ensures) (c .one-if .ensures .0)
 
 -- src/lib.rt:77:1
 returns-2 : tie.Need-returns-2
