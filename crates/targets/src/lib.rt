@@ -53,12 +53,12 @@ fn enter_name(states: &mut [[u32; 24]], count: usize, text: &[u8], off: usize, l
     ensures { λ r. ⌜ now (states .exit) ≡ placedRow (now (states .entry)) count r (record { at = off + 1; len = len }) ⌝ }
 {
     let end = off + len;
-    let k = find_state(states, count, text, &text[off..end]);
-    if k < count {
-        return k;
+    let found = find_state(states, count, text, &text[off..end]);
+    if found < count {
+        return found;
     }
     put_state(states, count, (off + 1) as u32, len as u32);
-    k
+    found
 }
 
 fn count_after(count: usize, k: usize) -> usize

@@ -96,3 +96,59 @@ pub fn operations(code: &str) -> usize {
     }
     count + code.matches('(').count()
 }
+
+/// The file that a citation of docs/SCOPE.md means: `File` is a definition's, `crate` its code, `edges` the recorded streams, anything else a path.
+pub fn cited_file(path: &str) -> Option<PathBuf> {
+    let top = repository();
+    let short = !path.contains(['/', '.']);
+    let tried = match path {
+        "edges" => vec![top.join("tests/rufsm/src/edges.rs")],
+        _ if short && path.starts_with(char::is_uppercase) => {
+            vec![top.join(format!("crates/definition/specs/{path}.antt"))]
+        }
+        _ if short => vec![top.join(format!("crates/{path}/src/lib.rt")), top.join(path)],
+        _ => vec![top.join(path), top.join("crates").join(path), top.join(format!("{path}.events"))],
+    };
+    tried.into_iter().find(|file| file.is_file())
+}
+
+/// Whether a file has a definition, a function, a test, a stream or an entry of this name.
+pub fn defines(file: &Path, name: &str) -> bool {
+    let text = read(file);
+    let begins = |line: &str, heads: &[&str]| {
+        heads.iter().any(|head| {
+            let rest = line.trim_start().strip_prefix(head).and_then(|rest| rest.strip_prefix(name));
+            rest.is_some_and(|rest| !rest.starts_with(|c: char| c.is_alphanumeric() || matches!(c, '_' | '-' | '′')))
+        })
+    };
+    let antt = ["", "pub ", "unfoldable ", "unfoldable pub ", "abbrev ", "abbrev pub ", "pub record ", "pub data "];
+    let rattle = ["fn ", "pub fn ", "pub extern \"C\" fn ", "const ", "pub const ", "pub struct "];
+    let rust = ["fn ", "pub fn ", "pub(crate) fn ", "static void ", "static int "];
+    let (entry, text) = (file.file_name().and_then(|name| name.to_str()), text.as_str());
+    text.lines().any(|line| match file.extension().and_then(|extension| extension.to_str()) {
+        Some("antt") => begins(line, &antt),
+        Some("rt") => begins(line, &rattle),
+        Some("rs") if file.ends_with("rufsm/src/edges.rs") => line.contains(&format!("\"{name}\"")),
+        Some("rs" | "c") => begins(line, &rust),
+        _ if entry == Some("DECISIONS.md") => line.starts_with(&format!("{name}. **")),
+        _ if entry == Some("DIFFERENCES.md") => {
+            ["**", "| ", "- "].iter().any(|head| line.starts_with(&format!("{head}{name}")))
+        }
+        _ => line.starts_with(&format!("{name}()")),
+    })
+}
+
+/// What a line of docs/SCOPE.md cites: of a table's row what follows the sentence. Words in capitals stand for something.
+pub fn citations(line: &str) -> Vec<&str> {
+    let cited = match line.strip_prefix("| ") {
+        Some(row) => row.split_once(" | ").map_or("", |(_, cited)| cited),
+        None => line,
+    };
+    let words = cited.split('`').skip(1).step_by(2);
+    words.filter(|word| word.contains(": ") || word.contains('/')).filter(|word| !is_example(word)).collect()
+}
+
+fn is_example(word: &str) -> bool {
+    let patterns = ["NAME", "CRATE", "File: name", "crate: name", "edges: name"];
+    word.starts_with("..") || patterns.iter().any(|pattern| word.contains(pattern))
+}

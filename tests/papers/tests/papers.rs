@@ -134,3 +134,22 @@ fn edits_of_code_keep_its_operations() {
         assert_eq!(operations(&part.old), operations(&part.new), "{folder}: {}", part.new);
     }
 }
+
+/// docs/SCOPE.md: `path: name, name` or a path alone.
+#[test]
+fn every_sentence_cites_what_is_there() {
+    let page = read(&repository().join("docs/SCOPE.md"));
+    let (mut count, mut wrong) = (0, Vec::new());
+    for word in page.lines().flat_map(citations) {
+        let (path, cited) = word.split_once(": ").unwrap_or((word, ""));
+        let Some(file) = cited_file(path) else {
+            wrong.push(format!("no file {path}"));
+            continue;
+        };
+        count += 1;
+        let missing = cited.split(", ").filter(|name| !name.is_empty() && !defines(&file, name));
+        wrong.extend(missing.map(|name| format!("{path} has no {name}")));
+    }
+    assert!(count > 500, "only {count} citations were found");
+    assert!(wrong.is_empty(), "{}", wrong.join("\n"));
+}
