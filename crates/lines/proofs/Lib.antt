@@ -1,3 +1,4 @@
 pub mod LineLaws
 pub mod EscapeLaws
+pub mod BlockLaws
 pub mod ReadLaws

@@ -1,6 +1,6 @@
 -- What the loops over lines and heads need of the definitions, at a part of a list that starts at i.
 use mathlib.Core.Path.{_≡_, refl, sym, ap, _∙_, subst}
-use mathlib.Core.Bool.{Bool, true, false, _&&_}
+use mathlib.Core.Bool.{Bool, true, false, _&&_, and-eq-true-iff}
 use mathlib.Core.Option.{none}
 use mathlib.Core.List.{List, [], _∷_, _++_, append-nil, append-assoc}
 use Prim.Native.Nat.{ℕ, suc, _+_, _-_, _≤_, _<_}
@@ -8,7 +8,7 @@ use native.Mathlib.Numerals.{add-one}
 use native.Mathlib.Omega.{arith}
 use lib.Dec.{eqb}
 use lib.ListN.{length, getD, take, drop, drop-of-length-le, length-drop}
-use lib.Seq.{drop-cons, take-all}
+use lib.Seq.{drop-cons, drop-drop, take-all}
 use borrow.Author.Tests.{ne-eqb, eq-eqb}
 use Rattle.definition.specs.Text.{str}
 use Rattle.definition.specs.Event.{after, beginsEvent, flush, cut, eventsOf}
@@ -52,41 +52,72 @@ module _ (h l : List ℕ) (i : ℕ) where
 
 -- ---- a stream
 
--- Whether a line begins at i.
-abbrev pub lineAt : List ℕ → ℕ → Bool
-lineAt s i = eqb (getD s (i - 1) 0) 10
+-- Where no line begins, the rest is as long as an event.
+rest-event : (l : List ℕ) → restLength false l ≡ eventLength l
+unfolding restLength eventLength
+rest-event [] = refl
+rest-event (b ∷ bs) = refl
 
-pub begins-not : (s : List ℕ) (i : ℕ) → (getD s (i - 1) 0 ≡ 10 → ⊥) → false ≡ (lineAt s i && beginsEvent (drop i s))
-begins-not s i e = rw (ne-eqb _ _ e)
+-- An event's end, seen from the end of the line it begins on.
+line-event : (l : List ℕ) → lineLength l + eventLength (drop (lineLength l) l) ≡ eventLength l
+unfolding lineLength eventLength
+line-event [] = refl
+line-event (b ∷ bs) = go (eqb b 10) refl (line-event bs)
+  where
+    go : (p : Bool) → eqb b 10 ≡ p → lineLength bs + eventLength (drop (lineLength bs) bs) ≡ eventLength bs → lineLength (b ∷ bs) + eventLength (drop (lineLength (b ∷ bs)) (b ∷ bs)) ≡ eventLength (b ∷ bs)
+    go true q ih = rw (q, lineLength) (omega (arith, ap (λ (x : Bool). restLength x bs) q))
+    go false q ih = rw (q, lineLength, eventLength) (omega (arith, ih, rest-event bs))
 
-pub begins-head : (s : List ℕ) (i : ℕ) {r : Bool} → getD s (i - 1) 0 ≡ 10 → r ≡ hasHead (str "event=") (take (length s - i) (drop i s)) → r ≡ (lineAt s i && beginsEvent (drop i s))
-unfolding hasHead beginsEvent
-begins-head s i e f =
-    let z : length (drop i s) ≤ length s - i = omega (arith, length-drop i s) in
-    f ∙ rw (take-all (length s - i) (drop i s) z, eq-eqb _ _ e) refl
+line-ended : (l : List ℕ) → lineLength (drop (lineLength l) l) ≡ 0
+unfolding lineLength
+line-ended [] = refl
+line-ended (b ∷ bs) = go (eqb b 10) refl (line-ended bs)
+  where
+    go : (p : Bool) → eqb b 10 ≡ p → lineLength (drop (lineLength bs) bs) ≡ 0 → lineLength (drop (lineLength (b ∷ bs)) (b ∷ bs)) ≡ 0
+    go true q ih = rw (q, lineLength, q, lineLength)
+    go false q ih = rw (q, lineLength) ih
+
+-- After the end of a line an event begins, or the one before goes on.
+line-next : (b : ℕ) (bs : List ℕ) → lineLength (b ∷ bs) ≡ 0 → eventLength (b ∷ bs) ≡ suc (restLength true bs)
+unfolding lineLength eventLength
+line-next b bs e = go (eqb b 10) refl
+  where
+    go : (p : Bool) → eqb b 10 ≡ p → eventLength (b ∷ bs) ≡ suc (restLength true bs)
+    go true q = rw (q, eventLength)
+    go false q = let z : suc (lineLength bs) ≡ 0 = rw (q, lineLength) at e in absurd (omega arith)
+
+rest-begun : (l : List ℕ) → beginsEvent l ≡ true → restLength true l ≡ 0
+unfolding restLength beginsEvent after str
+rest-begun [] e = refl
+rest-begun (b ∷ bs) e = rw (e, restLength)
+
+rest-on : (l : List ℕ) → beginsEvent l ≡ false → restLength true l ≡ eventLength l
+unfolding restLength eventLength
+rest-on [] e = refl
+rest-on (b ∷ bs) e = rw (e, restLength)
 
 module _ (s : List ℕ) (i : ℕ) where
-  pub event-more : i < length s → {r : Bool} → r ≡ (lineAt s i && beginsEvent (drop i s)) → r ≡ false
-      → i + 1 + restLength (lineAt s (i + 1)) (drop (i + 1) s) ≡ i + restLength (lineAt s i) (drop i s)
-  unfolding restLength
-  event-more h e f =
-      let z : i + 1 - 1 ≡ i = omega arith in
-      let g : (lineAt s i && beginsEvent (getD s i 0 ∷ drop (suc i) s)) ≡ false = rw (drop-cons s i 0 h) at (sym e ∙ f) in
-      rw (z, drop-cons s i 0 h, g, restLength, add-one) (omega arith)
+  pub line-ended-at : {r : ℕ} → r ≡ i + lineLength (drop i s) → lineLength (drop r s) ≡ 0
+  line-ended-at e = rw (e, ← drop-drop (lineLength (drop i s)) i s) (line-ended (drop i s))
 
-  pub event-stop : i < length s → {r : Bool} → r ≡ (lineAt s i && beginsEvent (drop i s)) → r ≡ true → i ≡ i + restLength (lineAt s i) (drop i s)
-  unfolding restLength
-  event-stop h e f =
-      let g : (lineAt s i && beginsEvent (getD s i 0 ∷ drop (suc i) s)) ≡ true = rw (drop-cons s i 0 h) at (sym e ∙ f) in
-      rw (drop-cons s i 0 h, g, restLength) (omega arith)
+  pub event-line : {r : ℕ} → r ≡ i + lineLength (drop i s) → r + eventLength (drop r s) ≡ i + eventLength (drop i s)
+  event-line e = rw (e, ← drop-drop (lineLength (drop i s)) i s) (omega (arith, line-event (drop i s)))
 
-  pub event-end : length s ≤ i → i ≡ i + restLength (lineAt s i) (drop i s)
-  unfolding restLength
-  event-end h = rw (drop-of-length-le s h) (omega arith)
+  module _ (h : i < length s) (e : lineLength (drop i s) ≡ 0) {r : Bool} (f : r ≡ hasHead (str "event=") (take (length s - (i + 1)) (drop (i + 1) s))) where
+    begins : beginsEvent (drop (suc i) s) ≡ r
+    unfolding hasHead beginsEvent
+    begins =
+        let z : length (drop (i + 1) s) ≤ length s - (i + 1) = omega (arith, length-drop (i + 1) s) in
+        sym (rw (take-all (length s - (i + 1)) (drop (i + 1) s) z, add-one) at f)
 
-  pub event-start : i < length s → i + 1 + restLength (lineAt s (i + 1)) (drop (i + 1) s) ≡ i + eventLength (drop i s)
-  unfolding eventLength
-  event-start h = let z : i + 1 - 1 ≡ i = omega arith in rw (z, drop-cons s i 0 h, add-one) (omega arith)
+    ended : eventLength (drop i s) ≡ suc (restLength true (drop (suc i) s))
+    ended = rw (drop-cons s i 0 h) (line-next (getD s i 0) (drop (suc i) s) (rw (drop-cons s i 0 h) at e))
+
+    pub event-stop : r ≡ true → i + 1 ≡ i + eventLength (drop i s)
+    event-stop g = omega (arith, ended, rest-begun (drop (suc i) s) (begins ∙ g))
+
+    pub event-more : r ≡ false → i + 1 + eventLength (drop (i + 1) s) ≡ i + eventLength (drop i s)
+    event-more g = rw add-one (omega (arith, ended, rest-on (drop (suc i) s) (begins ∙ g)))
 
   pub event-none : length s ≤ i → i ≡ i + eventLength (drop i s)
   unfolding eventLength
@@ -99,11 +130,7 @@ cut-rest [] e start = rw (append-nil e) refl
 cut-rest (b ∷ bs) e start = go (start && beginsEvent (b ∷ bs)) refl (cut-rest bs (e ++ b ∷ []) (eqb b 10))
   where
     begun : (start && beginsEvent (b ∷ bs)) ≡ true → beginsEvent (b ∷ bs) ≡ true
-    begun = right start (beginsEvent (b ∷ bs))
-      where
-        right : (p q : Bool) → (p && q) ≡ true → q ≡ true
-        right true q f = f
-        right false q f = let z : false ≡ true = f in cc
+    begun f = and-eq-true-iff start (beginsEvent (b ∷ bs)) .0 f .1
 
     go : (p : Bool) → (start && beginsEvent (b ∷ bs)) ≡ p → cut (eqb b 10) (e ++ b ∷ []) bs ≡ flush (e ++ b ∷ [] ++ take (restLength (eqb b 10) bs) bs) (eventsOf (drop (restLength (eqb b 10) bs) bs))
         → cut start e (b ∷ bs) ≡ flush (e ++ take (restLength start (b ∷ bs)) (b ∷ bs)) (eventsOf (drop (restLength start (b ∷ bs)) (b ∷ bs)))

@@ -1,13 +1,12 @@
 // Event lines: lines, heads, escapes, the bounds of a stream's events, and parts of an event compared as they are read.
 ghost use mathlib.Core.Path.{_≡_};
-ghost use mathlib.Core.Bool.{_&&_};
-ghost use Prim.Native.Nat.{_+_, _-_, _<_};
-ghost use lib.Dec.{eqb};
-ghost use lib.ListN.{length, getD, drop};
+ghost use Prim.Native.Nat.{_+_, _≤_, _<_};
+ghost use lib.ListN.{length, drop};
 ghost use Rattle.definition.specs.Text.{same};
-ghost use Rattle.definition.specs.Event.{legible, beginsEvent};
+ghost use Rattle.definition.specs.Event.{legible};
 ghost use Rattle.lines.specs.Lines.{lineLength, hasHead, eventLength};
-ghost use Rattle.lines.specs.Escapes.{scanned, firstWidth, firstByte, placed, fitting, lengthOf};
+ghost use Rattle.lines.specs.Escapes.{counted, scanned, firstWidth, firstByte, placed, fitting, lengthOf};
+ghost use Rattle.lines.specs.Blocks.{all, isWithinLine, isPlain};
 ghost use Rattle.lines.specs.Parts.{part, orNothing};
 
 // What a scan of a line finds: whether it is legible, and its unescaped length.
@@ -16,11 +15,46 @@ pub struct Scan {
     pub len: usize,
 }
 
+// How many bytes are looked at together: the compiler compares them at once.
+const BLOCK: usize = 8;
+
+// Whether no byte of the block at `i` is byte 10.
+fn is_block_within_line(raw: &[u8], i: usize) -> bool
+    requires { do ⌜ i + (← ⟦BLOCK⟧) ≤ length (now raw) ⌝ }
+    ensures { λ r. do ⌜ r ≡ all isWithinLine (part (now (raw .entry)) i (← ⟦BLOCK⟧ .entry)) ⌝ }
+{
+    (raw[i] != 10)
+        & (raw[i + 1] != 10)
+        & (raw[i + 2] != 10)
+        & (raw[i + 3] != 10)
+        & (raw[i + 4] != 10)
+        & (raw[i + 5] != 10)
+        & (raw[i + 6] != 10)
+        & (raw[i + 7] != 10)
+}
+
+// Skips blocks without a byte 10 from `from` on: the line still ends at the same place.
+fn skip_within_line(raw: &[u8], from: usize) -> usize
+    ensures { λ r. ⌜ r + lineLength (drop r (now (raw .entry))) ≡ from + lineLength (drop from (now (raw .entry))) ⌝ }
+{
+    if raw.len() <= from {
+        return from;
+    }
+    let mut i = from;
+    while BLOCK <= raw.len() - i {
+        if !is_block_within_line(raw, i) {
+            return i;
+        }
+        i += BLOCK;
+    }
+    i
+}
+
 // Where the line that holds `from` ends: its byte 10, or the end.
 pub fn line_end(raw: &[u8], from: usize) -> usize
     ensures { λ r. ⌜ r ≡ from + lineLength (drop from (now (raw .entry))) ⌝ }
 {
-    let mut i = from;
+    let mut i = skip_within_line(raw, from);
     while i < raw.len() {
         if raw[i] == 10 {
             return i;
@@ -91,12 +125,49 @@ fn byte_at(raw: &[u8], i: usize) -> u8
     c
 }
 
+// Whether a byte on a line is the text's byte: it is no backslash and below 128.
+fn is_plain(b: u8) -> bool
+    ensures { λ r. ⌜ r ≡ isPlain b ⌝ }
+{
+    (b != 92) & (b < 128)
+}
+
+// Whether each byte of the block at `i` is the text's byte.
+fn is_block_plain(raw: &[u8], i: usize) -> bool
+    requires { do ⌜ i + (← ⟦BLOCK⟧) ≤ length (now raw) ⌝ }
+    ensures { λ r. do ⌜ r ≡ all isPlain (part (now (raw .entry)) i (← ⟦BLOCK⟧ .entry)) ⌝ }
+{
+    is_plain(raw[i])
+        & is_plain(raw[i + 1])
+        & is_plain(raw[i + 2])
+        & is_plain(raw[i + 3])
+        & is_plain(raw[i + 4])
+        & is_plain(raw[i + 5])
+        & is_plain(raw[i + 6])
+        & is_plain(raw[i + 7])
+}
+
+// Skips the first blocks whose bytes are the text's, and returns how many bytes that are.
+fn skip_plain(raw: &[u8]) -> usize
+    ensures within { λ r. ⌜ r ≤ length (now (raw .entry)) ⌝ }
+    ensures { λ r. ⌜ counted r (legible (drop r (now (raw .entry)))) ≡ scanned (now (raw .entry)) ⌝ }
+{
+    let mut i = 0;
+    while BLOCK <= raw.len() - i {
+        if !is_block_plain(raw, i) {
+            return i;
+        }
+        i += BLOCK;
+    }
+    i
+}
+
 // Whether what is written is legible, and its unescaped length.
 pub fn scan_line(raw: &[u8]) -> Scan
     ensures { λ r. ⌜ r ≡ scanned (now (raw .entry)) ⌝ }
 {
-    let mut i = 0;
-    let mut n = 0;
+    let mut i = skip_plain(raw);
+    let mut n = i;
     while i < raw.len() {
         let k = width_at(raw, i);
         if k == 0 {
@@ -134,30 +205,16 @@ pub fn unescape(raw: &[u8], out: &mut [u8]) -> usize
     len
 }
 
-// Whether an event begins at `i`: a line begins there, with `event=`.
-fn begins_event(stream: &[u8], i: usize) -> bool
-    requires { ⌜ (0 < i) × (i < length (now stream)) ⌝ }
-    ensures { λ r. ⌜ r ≡ (eqb (getD (now (stream .entry)) (i - 1) 0) 10 && beginsEvent (drop i (now (stream .entry)))) ⌝ }
-{
-    if stream[i - 1] != 10 {
-        return false;
-    }
-    has_head(&stream[i..], b"event=")
-}
-
 // Where the event that begins at `from` ends: at the next line that begins `event=`, or at the stream's end.
 pub fn next_event(stream: &[u8], from: usize) -> usize
     ensures { λ r. ⌜ r ≡ from + eventLength (drop from (now (stream .entry))) ⌝ }
 {
-    if stream.len() <= from {
-        return from;
-    }
-    let mut i = from + 1;
+    let mut i = line_end(stream, from);
     while i < stream.len() {
-        if begins_event(stream, i) {
-            return i;
+        if has_head(&stream[i + 1..], b"event=") {
+            return i + 1;
         }
-        i += 1;
+        i = line_end(stream, i + 1);
     }
     i
 }

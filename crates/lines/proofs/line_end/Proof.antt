@@ -13,8 +13,11 @@ Inv-loop raw from i₀ i = i + lineLength (drop i raw) ≡ from + lineLength (dr
 abbrev μ-loop : tie.MeasureT-loop
 μ-loop raw from i₀ i = length raw - i
 
+skip-within-line-requires : tie.Need-skip-within-line-requires Inv-loop μ-loop
+skip-within-line-requires c κs = search needs
+
 loop-holds : tie.Need-loop-holds Inv-loop μ-loop
-loop-holds c = search needs
+loop-holds c = c .skip-within-line .ensures
 
 shared-slice-read-if1 : tie.Need-shared-slice-read-if1 Inv-loop μ-loop
 shared-slice-read-if1 c = search needs
@@ -40,6 +43,7 @@ line-end-spec =
     (tie.spec
     Inv-loop
     μ-loop
+    skip-within-line-requires
     loop-holds
     shared-slice-read-if1
     returns

@@ -4,7 +4,7 @@ use Rattle.definition.specs.Event.{legible}
 use lib.ListN.{length, drop}
 use borrow.Author.Needs.{needs}
 use native.Mathlib.Omega.{arith}
-use mathlib.Core.Path.{_≡_, refl, _∙_}
+use mathlib.Core.Path.{_≡_, _∙_}
 use Prim.Native.Nat.{_≤_, _-_}
 use Rattle.lines.proofs.scan_line.Statement.{statement}
 use Rattle.lines.proofs.scan_line.Tie as tie
@@ -15,9 +15,11 @@ Inv-loop raw i₀ n₀ i n = ((n ≤ i) × (i ≤ length raw)) × (counted n (le
 abbrev μ-loop : tie.MeasureT-loop
 μ-loop raw i₀ n₀ i n = length raw - i
 
+skip-plain-requires : tie.Need-skip-plain-requires Inv-loop μ-loop
+skip-plain-requires c κs = search needs
+
 loop-holds : tie.Need-loop-holds Inv-loop μ-loop
-unfolding scanned
-loop-holds c = (search needs, refl)
+loop-holds c = (search needs, c .skip-plain .ensures .1)
 
 width-at-requires : tie.Need-width-at-requires Inv-loop μ-loop
 width-at-requires c κs = search needs
@@ -46,6 +48,7 @@ scan-line-spec =
     (tie.spec
     Inv-loop
     μ-loop
+    skip-plain-requires
     loop-holds
     width-at-requires
     returns
