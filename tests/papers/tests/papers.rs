@@ -114,12 +114,13 @@ fn edits_find_what_they_replace() {
     }
 }
 
-/// An edit that brings a name that its file does not know is refused for that, whatever the contract says.
+/// An edit that brings a name that its file does not know is refused for that, whatever the contract says. Codes and columns are known by their type.
 #[test]
 fn edits_use_names_in_scope() {
+    let shared = ["codes", "cells"].map(|name| read(&repository().join(format!("crates/definition/src/{name}.rt"))));
     for (folder, part) in edits() {
         let source = read(&Path::new(&folder).join(&part.file));
-        let known = names(&source);
+        let known: Vec<&str> = shared.iter().chain([&source]).flat_map(|text| names(text)).collect();
         let code: String = part.new.split('"').step_by(2).collect::<Vec<_>>().join("\"");
         for name in names(&code) {
             assert!(known.contains(&name), "{folder}: {}: the file does not know {name}", part.new);
