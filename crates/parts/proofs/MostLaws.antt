@@ -12,10 +12,10 @@ module _ {A : Type 0} (xs : List A) (c : ℕ) (long : length xs ≡ 16) where
   length-most : length (take c xs) ≡ atMost16 c
   length-most = omega (arith, length-take c xs, long)
 
-  pub take-most : take (atMost16 c) xs ≡ take c xs
-  take-most = sym (take-take (atMost16 c) c xs (omega arith)) ∙ take-all (atMost16 c) (take c xs) (omega (arith, length-most))
-
   module _ (i : ℕ) where
+    pub take-most : i ≤ atMost16 c → atMost16 c ≤ i → take i xs ≡ take c xs
+    take-most h k = sym (take-take i c xs (omega arith)) ∙ take-all i (take c xs) (omega (arith, length-most))
+
     pub past-most : atMost16 c ≤ i → drop i (take c xs) ≡ []
     past-most h = let m : length (take c xs) ≤ i = omega (arith, length-most) in drop-of-length-le (take c xs) m
 
