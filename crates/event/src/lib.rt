@@ -5,6 +5,7 @@ use nesting::holds_text;
 use parts::Pair;
 use parts::Part;
 use parts::Walked;
+use parts::at_most_16;
 use parts::place;
 use walk::walk_lines;
 ghost use mathlib.Core.Path.{_≡_};
@@ -100,11 +101,9 @@ fn key_repeats(raw: &[u8], w: Walked, i: usize) -> bool
     let at = place(p.key.at);
     let len = place(p.key.len);
     let key = part_of(raw, at, len);
+    let n = at_most_16(count);
     let mut j = i + 1;
-    while j < 16 {
-        if count <= j {
-            return false;
-        }
+    while j < n {
         let q = pairs[j];
         let from = place(q.key.at);
         let long = place(q.key.len);
@@ -121,11 +120,9 @@ fn keys_differ(raw: &[u8], w: Walked) -> bool
     ensures { λ r. ⌜ r ≡ allDiffer (pairKeys (now (raw .entry)) (take (w .count) (w .pairs))) ⌝ }
 {
     let count = w.count;
+    let n = at_most_16(count);
     let mut i = 0;
-    while i < 16 {
-        if count <= i {
-            return true;
-        }
+    while i < n {
         if key_repeats(raw, w, i) {
             return false;
         }

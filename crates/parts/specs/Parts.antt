@@ -1,5 +1,5 @@
 -- What an event's lines have brought: each part by where it is written, and the numbers of its element and keys.
-use Prim.Native.Nat.{ℕ, _+_, _<_}
+use Prim.Native.Nat.{ℕ, _+_, _<_, min}
 use mathlib.Core.Path.{_≡_}
 use mathlib.Core.Bool.{Bool, true, false}
 use mathlib.Core.List.{List}
@@ -123,6 +123,10 @@ withText p d =
 -- "16 attributes."
 unfoldable pub roomLeft : ℕ → Bool
 roomLeft count = ltb count (limits01 .attributes)
+
+-- How many of 16 places are attributes.
+abbrev pub atMost16 : ℕ → ℕ
+atMost16 c = min c 16
 
 unfoldable pub addedValue : Part → Walked → Walked
 unfolding roomLeft withValue broken

@@ -3,10 +3,10 @@ use definition::Chart;
 use text::same;
 ghost use mathlib.Core.Path.{_≡_};
 ghost use mathlib.Core.Bool.{false};
-ghost use Prim.Native.Nat.{_^_, _<_};
+ghost use Prim.Native.Nat.{_^_, _<_, _≤_};
 ghost use Rattle.definition.specs.Text.{placeIn};
 ghost use Rattle.definition.specs.Event.{kindNames};
-ghost use Rattle.parts.specs.Parts.{noPairs, begun, broken, addedValue, whole, Steps};
+ghost use Rattle.parts.specs.Parts.{noPairs, begun, broken, addedValue, atMost16, whole, Steps};
 
 // A part of an event: where it is written, in how many bytes, and its unescaped length. Small, since descriptions go by value.
 pub struct Part {
@@ -148,6 +148,18 @@ pub fn add_value(d: Cursor, value: Part) -> Cursor
     e.value = value;
     e.added = true;
     e
+}
+
+// How many of an event's 16 places a loop goes through. It is computed before the loop, since the compiler writes a loop to 16, with an exit at the count, out
+// sixteen times.
+pub fn at_most_16(count: usize) -> usize
+    ensures { λ r. ⌜ r ≡ atMost16 count ⌝ }
+    ensures { λ r. ⌜ r ≤ 16 ⌝ }
+{
+    if count < 16 {
+        return count;
+    }
+    16
 }
 
 // Cursor and attributes together.

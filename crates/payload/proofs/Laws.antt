@@ -6,8 +6,10 @@ use native.Mathlib.Nat.{add-zero}
 use native.Mathlib.Numerals.{add-one}
 use native.Mathlib.Omega.{arith}
 use lib.ListN.{length, getD, set, take, drop, length-append, length-drop, take-append-drop}
-use lib.Seq.{paste, paste-suc, length-paste, take-length, length-take-le, take-suc, take-all, take-at, drop-at, drop-drop, take-add}
+use lib.Seq.{paste, paste-suc, length-paste, take-length, length-take-le, take-suc, take-at, drop-at, drop-drop, take-add}
 use Rattle.definition.specs.Look.{Load, payload}
+use Rattle.parts.specs.Parts.{atMost16}
+use Rattle.parts.proofs.MostLaws.{take-most}
 use Rattle.plain.specs.declared.Slot.{Slot}
 use Rattle.plain.specs.Plain.{slotBytes, loadsIn}
 use Rattle.plain.specs.Keyed.{noSlot}
@@ -90,12 +92,12 @@ bytes-grow src ss i k =
     omega (arith, ap length z, length-append (bytesOf src ss i) (payload (loadsIn src (take k (drop i ss)))))
 
 pub record Laying (t : List ℕ) (used : ℕ) (src : List ℕ) (ss : List Slot) (c : ℕ) (now : List ℕ) (pos i : ℕ) : Type 0 where
-  pub within : i ≤ c
+  pub within : i ≤ atMost16 c
   pub room : used + length (bytesOf src ss c) ≤ length t
   pub all : now ≡ laid t used (bytesOf src ss i)
   pub ends : pos ≡ used + length (bytesOf src ss i)
 
-module _ (t : List ℕ) (used : ℕ) (src : List ℕ) (ss : List Slot) (c : ℕ) where
+module _ (t : List ℕ) (used : ℕ) (src : List ℕ) (ss : List Slot) (c : ℕ) (long : length ss ≡ 16) where
   pub laying-start : used + length (bytesOf src ss c) ≤ length t → Laying t used src ss c t used 0
   unfolding loadsIn payload
   laying-start h = record { within = omega arith; room = h; all = laid-nothing t used; ends = omega arith }
@@ -107,9 +109,9 @@ module _ (t : List ℕ) (used : ℕ) (src : List ℕ) (ss : List Slot) (c : ℕ)
     pub laying-size : length now ≡ length t
     laying-size = ap length (L .all) ∙ laid-length t used (bytesOf src ss i) fits-now
 
-    module _ (h : i < c) (k : i < length ss) (v : List ℕ) (ev : v ≡ slotBytes src (getD ss i noSlot)) where
+    module _ (h : i < atMost16 c) (v : List ℕ) (ev : v ≡ slotBytes src (getD ss i noSlot)) where
       next : bytesOf src ss (i + 1) ≡ bytesOf src ss i ++ v
-      next = bytes-next src ss i k ∙ ap (λ (x : List ℕ). bytesOf src ss i ++ x) (sym ev)
+      next = bytes-next src ss i (omega (arith, long)) ∙ ap (λ (x : List ℕ). bytesOf src ss i ++ x) (sym ev)
 
       longer : length (bytesOf src ss (i + 1)) ≡ length (bytesOf src ss i) + length v
       longer = ap length next ∙ length-append (bytesOf src ss i) v
@@ -128,12 +130,7 @@ module _ (t : List ℕ) (used : ℕ) (src : List ℕ) (ss : List Slot) (c : ℕ)
             ends = omega (arith, L .ends, longer);
           }
 
-    pub laying-end : c ≤ i → (pos ≡ used + length (bytesOf src ss c)) × (now ≡ laid t used (bytesOf src ss c))
+    pub laying-end : atMost16 c ≤ i → (pos ≡ used + length (bytesOf src ss c)) × (now ≡ laid t used (bytesOf src ss c))
     laying-end h =
-        let e : i ≡ c = omega (arith, L .within) in
-        (L .ends ∙ ap (λ (n : ℕ). used + length (bytesOf src ss n)) e, L .all ∙ ap (λ (n : ℕ). laid t used (bytesOf src ss n)) e)
-
-    pub laying-all : length ss ≤ i → (pos ≡ used + length (bytesOf src ss c)) × (now ≡ laid t used (bytesOf src ss c))
-    laying-all h =
-        let e : bytesOf src ss i ≡ bytesOf src ss c = ap (λ (xs : List Slot). payload (loadsIn src xs)) (take-all i ss h ∙ sym (take-all c ss (omega (arith, L .within)))) in
+        let e : bytesOf src ss i ≡ bytesOf src ss c = ap (λ (xs : List Slot). payload (loadsIn src xs)) (take-most ss c long i (L .within) h) in
         (L .ends ∙ ap (λ (x : List ℕ). used + length x) e, L .all ∙ ap (laid t used) e)

@@ -7,8 +7,8 @@ use mathlib.Core.List.{List, [], _∷_, _++_, append-assoc, append-nil}
 use native.Mathlib.Omega.{arith}
 use native.Mathlib.Numerals.{add-one}
 use lib.Dec.{eqb, leb}
-use lib.ListN.{length, getD, take, drop, length-append, length-drop, length-take, drop-of-length-le}
-use lib.Seq.{drop-drop, drop-cons, getD-take, take-all}
+use lib.ListN.{length, getD, take, drop, length-append, length-drop, drop-of-length-le}
+use lib.Seq.{drop-drop, take-all}
 use borrow.Author.Tests.{eq-eqb, ne-eqb, le-leb}
 use Rattle.definition.specs.Text.{quoted, generatedName}
 use Rattle.definition.specs.Elements.{namesState}
@@ -16,6 +16,8 @@ use Rattle.definition.specs.Look.{Load, payload, textLoads, nameLoads, isGenera
 use Rattle.words.proofs.Laws.{by}
 use Rattle.written.specs.Written.{written, writtenLength}
 use Rattle.written.proofs.GeneratedLaw.{made-length, made-fits}
+use Rattle.parts.specs.Parts.{atMost16}
+use Rattle.parts.proofs.MostLaws.{past-most, next-most}
 use Rattle.plain.specs.declared.Slot.{Slot}
 use Rattle.plain.specs.declared.Plain.{Plain}
 use Rattle.plain.specs.Plain.{Parsed, slotBytes, loadsIn, parsedIn, textIf}
@@ -194,34 +196,25 @@ pub record Summing (src : List ℕ) (ss : List Slot) (c sum i : ℕ) : Type 0 wh
   pub bound : sum ≤ i * 65536
   pub few : i ≤ 16
 
-module _ (src : List ℕ) (ss : List Slot) (c : ℕ) where
+module _ (src : List ℕ) (ss : List Slot) (c : ℕ) (long : length ss ≡ 16) where
   pub summing-start : Summing src ss c 0 0
   summing-start = record { all = omega arith; bound = omega arith; few = omega arith }
 
   module _ (sum i : ℕ) (x : Summing src ss c sum i) where
-    ended : drop i (take c ss) ≡ [] → (sum ≡ length (payload (loadsIn src (take c ss)))) × (sum ≤ 1048576)
+    pub summing-end : atMost16 c ≤ i → (sum ≡ length (payload (loadsIn src (take c ss)))) × (sum ≤ 1048576)
     unfolding loadsIn payload
-    ended e =
-        let z : length (payload (loadsIn src (drop i (take c ss)))) ≡ 0 = ap (λ (s : List Slot). length (payload (loadsIn src s))) e in
+    summing-end h =
+        let z : length (payload (loadsIn src (drop i (take c ss)))) ≡ 0 = ap (λ (s : List Slot). length (payload (loadsIn src s))) (past-most ss c long i h) in
         (omega (arith, x .all, z), omega (arith, x .bound, x .few))
 
-    pub summing-none : c ≤ i → (sum ≡ length (payload (loadsIn src (take c ss)))) × (sum ≤ 1048576)
-    summing-none h = let m : length (take c ss) ≤ i = omega (arith, length-take c ss) in ended (drop-of-length-le (take c ss) m)
-
-    pub summing-end : length ss ≤ i → (sum ≡ length (payload (loadsIn src (take c ss)))) × (sum ≤ 1048576)
-    summing-end h = let m : length (take c ss) ≤ i = omega (arith, length-take c ss) in ended (drop-of-length-le (take c ss) m)
-
-    module _ (h : i < c) (l : i < length ss) (k : i < 16) (v : List ℕ) (ev : v ≡ slotBytes src (getD ss i noSlot)) (short : length v < 65536) where
+    module _ (h : i < atMost16 c) (v : List ℕ) (ev : v ≡ slotBytes src (getD ss i noSlot)) (short : length v < 65536) where
       pub summing-more : Summing src ss c (sum + length v) (i + 1)
       unfolding loadsIn payload
       summing-more =
-          let m : i < length (take c ss) = omega (arith, length-take c ss) in
           let s : Slot = getD ss i noSlot in
-          let d : drop i (take c ss) ≡ s ∷ drop (i + 1) (take c ss) =
-          drop-cons (take c ss) i noSlot m ∙ ap₂ (λ (y : Slot) (n : ℕ). y ∷ drop n (take c ss)) (getD-take c ss i noSlot h) (sym (add-one i)) in
-          let z : payload (loadsIn src (drop i (take c ss))) ≡ slotBytes src s ++ payload (loadsIn src (drop (i + 1) (take c ss))) = ap (λ (y : List Slot). payload (loadsIn src y)) d in
+          let z : payload (loadsIn src (drop i (take c ss))) ≡ slotBytes src s ++ payload (loadsIn src (drop (i + 1) (take c ss))) = ap (λ (y : List Slot). payload (loadsIn src y)) (next-most ss c long i noSlot h) in
           record {
             all = omega (arith, x .all, ap length z, length-append (slotBytes src s) (payload (loadsIn src (drop (i + 1) (take c ss)))), ap length ev);
             bound = omega (arith, x .bound, short);
-            few = omega (arith, k);
+            few = omega arith;
           }

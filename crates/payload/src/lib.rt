@@ -3,6 +3,7 @@ use definition::codes::Key;
 use definition::codes::Kind;
 use definition::codes::Tag;
 use nesting::names_state;
+use parts::at_most_16;
 use plain::Plain;
 use plain::bytes_of;
 use plain::has;
@@ -38,17 +39,14 @@ pub fn append_values(text: &mut [u8], used: usize, src: &[u8], p: Plain) -> usiz
 {
     let count = p.count;
     let slots = p.slots;
+    let n = at_most_16(count);
     let mut pos = used;
     let mut i = 0;
-    while i < Plain::SLOTS {
-        if count <= i {
-            return pos;
-        }
+    while i < n {
         let s = slots[i];
         let v = bytes_of(src, s);
-        let n = v.len();
         put_bytes(text, pos, v);
-        pos += n;
+        pos += v.len();
         i += 1;
     }
     pos
@@ -155,12 +153,10 @@ fn values_length(src: &[u8], p: Plain) -> usize
 {
     let count = p.count;
     let slots = p.slots;
+    let n = at_most_16(count);
     let mut sum = 0;
     let mut i = 0;
-    while i < Plain::SLOTS {
-        if count <= i {
-            return sum;
-        }
+    while i < n {
         let s = slots[i];
         let v = bytes_of(src, s);
         sum += v.len();

@@ -6,8 +6,8 @@ use mathlib.Core.List.{List, [], _∷_, _++_, append-assoc, append-nil}
 use native.Mathlib.Numerals.{add-one}
 use native.Mathlib.Omega.{arith}
 use lib.Dec.{eqb}
-use lib.ListN.{length, getD, set, take, drop, length-append, length-drop, length-take, length-set, take-append-drop, drop-of-length-le}
-use lib.Seq.{length-take-le, take-all, take-at, drop-at, drop-drop, take-append-seam, take-suc, take-suc-set, drop-cons, getD-take}
+use lib.ListN.{length, getD, set, take, drop, length-append, length-drop, length-set, take-append-drop, drop-of-length-le}
+use lib.Seq.{length-take-le, take-all, take-at, drop-at, drop-drop, take-append-seam, take-suc, take-suc-set}
 use borrow.Author.Tests.{le-leb, eq-eqb, ne-eqb}
 use Rattle.definition.specs.Event.{legible}
 use Rattle.definition.specs.Look.{Load}
@@ -15,7 +15,8 @@ use Rattle.lines.specs.Escapes.{placed, fitting, lengthOf}
 use Rattle.lines.specs.Parts.{part, orNothing}
 use Rattle.parts.specs.declared.Part.{Part}
 use Rattle.parts.specs.declared.Pair.{Pair}
-use Rattle.parts.specs.Parts.{partAt, noPair}
+use Rattle.parts.specs.Parts.{partAt, noPair, atMost16}
+use Rattle.parts.proofs.MostLaws.{take-most, next-most}
 use Rattle.event.specs.declared.Described.{Described}
 use Rattle.event.specs.Described.{read}
 use Rattle.plain.specs.declared.Slot.{Slot}
@@ -149,7 +150,7 @@ read-append raw (p ∷ ps) qs = ap (λ (is : List Load). record { key = p .code;
 pub record Copying (raw : List ℕ) (ps : List Pair) (c size : ℕ) (a b : Slot) (x y : List ℕ) (out : List ℕ) (slots : List Slot) (pos i : ℕ) : Type 0 where
   pub short : size < 65536
   pub long : length out ≡ size
-  pub within : i ≤ c
+  pub within : i ≤ atMost16 c
   pub full : length slots ≡ 16
   pub room : pos + lengthRead raw (drop i (take c ps)) ≤ size
   pub one : Stands out pos a x
@@ -168,28 +169,26 @@ module _ (raw : List ℕ) (ps : List Pair) (c : ℕ) (many : length ps ≡ 16) (
     abbrev v : List ℕ
     v = read raw (here .value)
 
-    left : i < c → i < 16 → lengthRead raw (drop i (take c ps)) ≡ length v + lengthRead raw (drop (i + 1) (take c ps))
+    left : i < atMost16 c → lengthRead raw (drop i (take c ps)) ≡ length v + lengthRead raw (drop (i + 1) (take c ps))
     unfolding lengthRead
-    left h k =
-        let m : i < length (take c ps) = omega (arith, length-take c ps, many) in
-        ap (lengthRead raw) (drop-cons (take c ps) i noPair m ∙ ap₂ (λ (p : Pair) (n : ℕ). p ∷ drop n (take c ps)) (getD-take c ps i noPair h) (sym (add-one i)))
+    left h = ap (lengthRead raw) (next-most ps c many i noPair h)
 
-    pub copy-fits : i < c → i < 16 → pos + length v ≤ length out
-    copy-fits h k = omega (arith, left h k, K .room, K .long)
+    pub copy-fits : i < atMost16 c → pos + length v ≤ length out
+    copy-fits h = omega (arith, left h, K .room, K .long)
 
-    pub copy-small : i < c → i < 16 → (end : ℕ) → end ≡ pos + length v → (pos ≤ end) × (end < 65536)
-    copy-small h k end e = (omega (arith, e), omega (arith, e, copy-fits h k, K .long, K .short))
+    pub copy-small : i < atMost16 c → (end : ℕ) → end ≡ pos + length v → (pos ≤ end) × (end < 65536)
+    copy-small h end e = (omega (arith, e), omega (arith, e, copy-fits h, K .long, K .short))
 
-    pub copying-more : i < c → i < 16 → (out′ : List ℕ) (end : ℕ) (s : Slot) → out′ ≡ laid out pos v → end ≡ pos + length v → s ≡ record { code = here .code; at = pos; len = end - pos }
+    pub copying-more : i < atMost16 c → (out′ : List ℕ) (end : ℕ) (s : Slot) → out′ ≡ laid out pos v → end ≡ pos + length v → s ≡ record { code = here .code; at = pos; len = end - pos }
         → Copying raw ps c size a b x y out′ (set slots i s) end (i + 1)
-    copying-more h k out′ end s eo ee es =
-        let l : Laid out pos v out′ end = record { fits = copy-fits h k; all = eo; ends = ee } in
+    copying-more h out′ end s eo ee es =
+        let l : Laid out pos v out′ end = record { fits = copy-fits h; all = eo; ends = ee } in
         record {
           short = K .short;
           long = now-length out pos v out′ end l ∙ K .long;
           within = omega arith;
           full = length-set slots i s ∙ K .full;
-          room = omega (arith, left h k, K .room, ee);
+          room = omega (arith, left h, K .room, ee);
           one = stays out pos v out′ end l a x (K .one);
           two = stays out pos v out′ end l b y (K .two);
           values = λ q.
@@ -206,24 +205,9 @@ module _ (raw : List ℕ) (ps : List Pair) (c : ℕ) (many : length ps ≡ 16) (
             λ j. record { key = ap (λ (z : Slot). z .code) es j; bytes = stands out pos v out′ end l (here .code) s es q j } ∷ []
 
     -- the values are all there
-    loads-end : take c slots ≡ take i slots → take c ps ≡ take i ps → loadsIn out (take c slots) ≡ readLoads raw (take c ps)
-    loads-end e f = ap₂ loadsIn (sym (take-append-drop pos out)) e ∙ K .values (drop pos out) ∙ ap (readLoads raw) (sym f)
-
-    abbrev Whole : Type 0
-    Whole = loadsIn out (take c slots) ≡ readLoads raw (take c ps)
-
-    pub copied-all : c ≤ i → Whole
+    pub copied-all : atMost16 c ≤ i → loadsIn out (take c slots) ≡ readLoads raw (take c ps)
     copied-all h =
-        let e : c ≡ i = omega (arith, K .within) in
-        let f : take c slots ≡ take i slots = ap (λ (n : ℕ). take n slots) e in
-        let g : take c ps ≡ take i ps = ap (λ (n : ℕ). take n ps) e in
-        loads-end f g
-
-    pub copied-sixteen : 16 ≤ i → Whole
-    copied-sixteen h =
-        let f : take c slots ≡ take i slots = take-all c slots (omega (arith, K .within, K .full)) ∙ sym (take-all i slots (omega (arith, K .full))) in
-        let g : take c ps ≡ take i ps = take-all c ps (omega (arith, K .within, many)) ∙ sym (take-all i ps (omega (arith, many))) in
-        loads-end f g
+        ap₂ loadsIn (sym (take-append-drop pos out)) (sym (take-most slots c (K .full) i (K .within) h)) ∙ K .values (drop pos out) ∙ ap (readLoads raw) (take-most ps c many i (K .within) h)
 
 -- ---- a text only where there is one
 

@@ -3,14 +3,17 @@ use Prim.Native.Nat.{ℕ, zero, suc, _+_, _-_, _≤_, _<_}
 use mathlib.Core.Path.{_≡_, refl, sym, ap, ap₂, _∙_}
 use mathlib.Core.Bool.{true, false, not}
 use mathlib.Core.List.{List, [], _∷_}
+use native.Mathlib.Numerals.{add-one}
 use native.Mathlib.Omega.{arith}
 use lib.Dec.{eqb, ltb}
-use lib.ListN.{length, getD, set, take, drop, replicate, length-set, length-take, drop-of-length-le, getD-replicate}
-use lib.Seq.{drop-cons, getD-take, getD-set-same, getD-set-other}
+use lib.ListN.{length, getD, set, take, drop, replicate, length-set, length-take, getD-replicate}
+use lib.Seq.{getD-take, getD-set-same, getD-set-other}
 use borrow.Author.Tests.{eqb-true, eqb-false, ltb-true, ltb-false, lt-ltb, le-ltb, ne-eqb}
 use Rattle.words.proofs.Laws.{by}
+use Rattle.parts.specs.Parts.{atMost16}
+use Rattle.parts.proofs.MostLaws.{past-most, next-most}
 use Rattle.plain.specs.declared.Slot.{Slot}
-use Rattle.plain.specs.Keyed.{keyPlace, atMost16, indexFrom, indexOf, isMarked, noSlot, hasSlot, slotFor}
+use Rattle.plain.specs.Keyed.{keyPlace, indexFrom, indexOf, isMarked, noSlot, hasSlot, slotFor}
 
 pub place-low : (k : ℕ) → k < 31 → k ≡ keyPlace k
 unfolding keyPlace
@@ -20,45 +23,28 @@ pub place-high : (k : ℕ) → 31 ≤ k → 31 ≡ keyPlace k
 unfolding keyPlace
 place-high k h = let z : ltb k 31 ≡ false = le-ltb k 31 h in rw (z, keyPlace)
 
-pub most-low : (c : ℕ) → c < 16 → c ≡ atMost16 c
-unfolding atMost16
-most-low c h = let z : ltb c 16 ≡ true = lt-ltb c 16 h in rw (z, atMost16)
-
-pub most-high : (c : ℕ) → 16 ≤ c → 16 ≡ atMost16 c
-unfolding atMost16
-most-high c h = let z : ltb c 16 ≡ false = le-ltb c 16 h in rw (z, atMost16)
-
-most-below : (c : ℕ) → (atMost16 c ≤ c) × (atMost16 c ≤ 16)
-most-below c =
-    by (ltb c 16) (λ q. let h : c < 16 = ltb-true c 16 q in (omega (arith, most-low c h), omega (arith, most-low c h)))
-    (λ q. let h : 16 ≤ c = ltb-false c 16 q in (omega (arith, most-high c h), omega (arith, most-high c h)))
-
 -- ---- the loop
 
 pub record Indexing (ss : List Slot) (c : ℕ) (at : List ℕ) (i : ℕ) : Type 0 where
   pub index : at ≡ indexFrom i (drop i (take c ss))
   pub few : i ≤ atMost16 c
-  pub small : i ≤ 16
 
 module _ (ss : List Slot) (c : ℕ) (long : length ss ≡ 16) where
   pub indexing-start : (i : ℕ) → i ≡ atMost16 c → Indexing ss c (replicate 32 0) i
   unfolding indexFrom
-  indexing-start i e =
-      let m : length (take c ss) ≤ i = by (ltb c 16) (λ q. omega (arith, length-take c ss, e, most-low c (ltb-true c 16 q))) (λ q. omega (arith, length-take c ss, e, long, most-high c (ltb-false c 16 q))) in
-      record { index = sym (ap (indexFrom i) (drop-of-length-le (take c ss) m)); few = omega (arith, e); small = omega (arith, e, most-below c .1) }
+  indexing-start i e = record { index = sym (ap (indexFrom i) (past-most ss c long i (omega (arith, e)))); few = omega (arith, e) }
 
   pub indexing-more : (at : List ℕ) (i j : ℕ) → 0 < i → j ≡ i - 1 → Indexing ss c at i → (k : ℕ) → k ≡ keyPlace (getD ss j noSlot .code) → Indexing ss c (set at k (j + 1)) j
   unfolding indexFrom
   indexing-more at i j h ej x k e =
-      let l : j < length (take c ss) = omega (arith, length-take c ss, x .few, most-below c .0, most-below c .1, long) in
-      let d : drop j (take c ss) ≡ getD ss j noSlot ∷ drop (suc j) (take c ss) = drop-cons (take c ss) j noSlot l ∙ ap (λ (s : Slot). s ∷ drop (suc j) (take c ss)) (getD-take c ss j noSlot (omega (arith, x .few, most-below c .0))) in
-      let n : j + 1 ≡ suc j = omega arith in
-      let y : i ≡ suc j = omega (arith, h, ej) in
-      let z : at ≡ indexFrom (suc j) (drop (suc j) (take c ss)) = x .index ∙ ap (λ (m : ℕ). indexFrom m (drop m (take c ss))) y in
+      let y : i ≡ j + 1 = omega (arith, h, ej) in
+      let z : at ≡ indexFrom (j + 1) (drop (j + 1) (take c ss)) = x .index ∙ ap (λ (m : ℕ). indexFrom m (drop m (take c ss))) y in
       record {
-        index = ap₂ (λ (a : List ℕ) (b : ℕ). set a b (j + 1)) z e ∙ ap (λ (m : ℕ). set (indexFrom (suc j) (drop (suc j) (take c ss))) (keyPlace (getD ss j noSlot .code)) m) n ∙ sym (ap (indexFrom j) d);
+        index =
+            ap₂ (λ (a : List ℕ) (b : ℕ). set a b (j + 1)) z e
+            ∙ ap (λ (m : ℕ). set (indexFrom m (drop (j + 1) (take c ss))) (keyPlace (getD ss j noSlot .code)) m) (add-one j)
+            ∙ sym (ap (indexFrom j) (next-most ss c long j noSlot (omega (arith, x .few, y))));
         few = omega (arith, x .few, y);
-        small = omega (arith, x .small, y);
       }
 
   pub indexing-end : (at : List ℕ) (i : ℕ) → i ≤ 0 → Indexing ss c at i → at ≡ indexOf (take c ss)

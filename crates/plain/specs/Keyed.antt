@@ -10,9 +10,6 @@ use Rattle.plain.specs.declared.Slot.{Slot}
 unfoldable pub keyPlace : ℕ → ℕ
 keyPlace k = elim (ltb k 31) [ true ↦ k | false ↦ 31 ]
 
-unfoldable pub atMost16 : ℕ → ℕ
-atMost16 c = elim (ltb c 16) [ true ↦ c | false ↦ 16 ]
-
 -- The first slot is number i + 1.
 unfoldable pub indexFrom : ℕ → List Slot → List ℕ
 unfolding keyPlace

@@ -4,6 +4,7 @@ use event::Described;
 use lines::part_of;
 use lines::unescape;
 use parts::Part;
+use parts::at_most_16;
 use parts::place;
 ghost use mathlib.Core.Path.{_≡_};
 ghost use Prim.Native.Nat.{_+_, _-_, _<_, _≤_};
@@ -11,7 +12,7 @@ ghost use mathlib.Core.List.{_++_};
 ghost use lib.ListN.{length, take, drop};
 ghost use Rattle.event.specs.Described.{read};
 ghost use Rattle.plain.specs.Plain.{isPlain, plainly, spanOf, PlainOf, textPart, slotBytes, slotsOf, loadsIn, parsedIn, parsedRaw, Space};
-ghost use Rattle.plain.specs.Keyed.{keyPlace, atMost16, indexOf, isMarked, slotFor, valueIn};
+ghost use Rattle.plain.specs.Keyed.{keyPlace, indexOf, isMarked, slotFor, valueIn};
 
 /// A part: its key's number, 0 where it has none, and where it stands.
 pub struct Slot {
@@ -61,11 +62,9 @@ pub fn is_plain(d: Described) -> bool
     if !is_plain_part(text) {
         return false;
     }
+    let n = at_most_16(count);
     let mut i = 0;
-    while i < Plain::SLOTS {
-        if count <= i {
-            return true;
-        }
+    while i < n {
         let p = pairs[i];
         let v = p.value;
         if !is_plain_part(v) {
@@ -100,19 +99,10 @@ pub fn plain_of(d: Described) -> Plain
     let dt = d.text;
     let name = slot_of(0, dn);
     let text = slot_of(0, dt);
+    let n = at_most_16(count);
     let mut slots = [name; Plain::SLOTS];
     let mut i = 0;
-    while i < Plain::SLOTS {
-        if count <= i {
-            return Plain {
-                kind: kind,
-                tag: tag,
-                count: count,
-                name: name,
-                text: text,
-                slots: slots,
-            };
-        }
+    while i < n {
         let p = pairs[i];
         let v = p.value;
         let s = slot_of(p.code, v);
@@ -182,20 +172,11 @@ pub fn unescape_all(out: &mut [u8], raw: &[u8], d: Described) -> Plain
     let name = slot_at(0, 0, first);
     let second = copy_part(out, first, raw, dt);
     let text = slot_at(0, first, second);
+    let n = at_most_16(count);
     let mut slots = [name; Plain::SLOTS];
     let mut pos = second;
     let mut i = 0;
-    while i < Plain::SLOTS {
-        if count <= i {
-            return Plain {
-                kind: kind,
-                tag: tag,
-                count: count,
-                name: name,
-                text: text,
-                slots: slots,
-            };
-        }
+    while i < n {
         let p = pairs[i];
         let v = p.value;
         let end = copy_part(out, pos, raw, v);
@@ -223,16 +204,6 @@ fn key_place(code: u32) -> usize
         return code as usize;
     }
     31
-}
-
-fn at_most_16(count: usize) -> usize
-    ensures { λ r. ⌜ r ≡ atMost16 count ⌝ }
-    ensures { λ r. ⌜ r ≤ 16 ⌝ }
-{
-    if count < Plain::SLOTS {
-        return count;
-    }
-    Plain::SLOTS
 }
 
 // By a key's number the place of its first value among the slots, from 1; 0 without it.

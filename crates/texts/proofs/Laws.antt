@@ -1,20 +1,21 @@
 -- Steps of the code.
-use Prim.Native.Nat.{ℕ, zero, suc, _+_, _-_, _≤_, _<_}
+use Prim.Native.Nat.{ℕ, suc, _+_, _≤_, _<_}
 use mathlib.Core.Path.{_≡_, refl, sym, ap, ap₂, _∙_}
-use mathlib.Core.Bool.{Bool, true, false}
-use mathlib.Core.List.{List, [], _∷_, _++_}
+use mathlib.Core.List.{List, _∷_}
 use native.Mathlib.Omega.{arith}
 use native.Mathlib.Numerals.{add-one}
 use lib.Dec.{eqb, ltb}
-use lib.ListN.{length, getD, set, take, drop, drop-of-length-le, length-set, length-take, length-append}
-use lib.Seq.{drop-cons, getD-take}
+use lib.ListN.{length, getD, set, take, drop, length-set, length-append}
 use borrow.Author.Tests.{eq-eqb, ne-eqb, lt-ltb, le-ltb, ltb-true, ltb-false, eqb-true, eqb-false}
 use Rattle.definition.specs.Rows.{Cell, noCell, withCell}
 use Rattle.definition.specs.Look.{Load, payload}
 use Rattle.lines.specs.Parts.{part}
 use Rattle.words.proofs.Laws.{by}
+use Rattle.parts.specs.Parts.{atMost16}
+use Rattle.parts.proofs.MostLaws.{past-most, next-most}
 use Rattle.plain.specs.declared.Slot.{Slot}
 use Rattle.plain.specs.Plain.{slotBytes, loadsIn}
+use Rattle.plain.specs.Keyed.{noSlot}
 use Rattle.fill.specs.Fill.{cell}
 use Rattle.texts.specs.Texts.{textPut, textsIn, closed}
 
@@ -45,31 +46,21 @@ module _ (c : ℕ) (x : Cell) (t : List ℕ) where
       (λ p. by (eqb (getD t (c + c) 0) 0) (λ q. ap length (sym (put-new (ltb-true c 32 p) (eqb-true (getD t (c + c) 0) 0 q))) ∙ cell-length (c + c) x t) (λ q. ap length (sym (put-there (ltb-true c 32 p) (eqb-false (getD t (c + c) 0) 0 q)))))
       (λ p. ap length (sym (put-none (ltb-false c 32 p))))
 
-abbrev noSlot : Slot
-noSlot = record { code = 0; at = 0; len = 0 }
-
 pub record Texting (t₀ : List ℕ) (base : ℕ) (src : List ℕ) (ss : List Slot) (c : ℕ) (t : List ℕ) (pos i : ℕ) : Type 0 where
-  pub within : i ≤ 16
   pub rest : textsIn pos (loadsIn src (drop i (take c ss))) t ≡ textsIn base (loadsIn src (take c ss)) t₀
   pub sum : pos + length (payload (loadsIn src (drop i (take c ss)))) ≡ base + length (payload (loadsIn src (take c ss)))
   pub size : length t ≡ length t₀
 
-module _ (t₀ : List ℕ) (base : ℕ) (src : List ℕ) (ss : List Slot) (c : ℕ) where
+module _ (t₀ : List ℕ) (base : ℕ) (src : List ℕ) (ss : List Slot) (c : ℕ) (full : length ss ≡ 16) where
   pub texting-start : Texting t₀ base src ss c t₀ base 0
-  texting-start = record { within = omega arith; rest = refl; sum = refl; size = refl }
+  texting-start = record { rest = refl; sum = refl; size = refl }
 
   module _ (t : List ℕ) (pos i : ℕ) (T : Texting t₀ base src ss c t pos i) where
-    nothing : drop i (take c ss) ≡ [] → t ≡ textsIn base (loadsIn src (take c ss)) t₀
+    pub texting-end : atMost16 c ≤ i → t ≡ textsIn base (loadsIn src (take c ss)) t₀
     unfolding textsIn loadsIn
-    nothing e = sym (ap (λ (x : List Slot). textsIn pos (loadsIn src x) t) e) ∙ T .rest
+    texting-end h = sym (ap (λ (x : List Slot). textsIn pos (loadsIn src x) t) (past-most ss c full i h)) ∙ T .rest
 
-    pub texting-end : c ≤ i → t ≡ textsIn base (loadsIn src (take c ss)) t₀
-    texting-end h = let m : length (take c ss) ≤ i = omega (arith, length-take c ss) in nothing (drop-of-length-le (take c ss) m)
-
-    pub texting-all : length ss ≤ i → t ≡ textsIn base (loadsIn src (take c ss)) t₀
-    texting-all h = let m : length (take c ss) ≤ i = omega (arith, length-take c ss) in nothing (drop-of-length-le (take c ss) m)
-
-    module _ (h : i < c) (l : i < length ss) (at len : ℕ) (ea : at ≡ getD ss i noSlot .at) (el : len ≡ getD ss i noSlot .len) (v : List ℕ) (ev : v ≡ part src at len) where
+    module _ (h : i < atMost16 c) (at len : ℕ) (ea : at ≡ getD ss i noSlot .at) (el : len ≡ getD ss i noSlot .len) (v : List ℕ) (ev : v ≡ part src at len) where
       abbrev load : Load
       load = record { key = getD ss i noSlot .code; bytes = slotBytes src (getD ss i noSlot) }
 
@@ -78,9 +69,7 @@ module _ (t₀ : List ℕ) (base : ℕ) (src : List ℕ) (ss : List Slot) (c : �
 
       next : loadsIn src (drop i (take c ss)) ≡ load ∷ others
       unfolding loadsIn
-      next =
-          let m : i < length (take c ss) = omega (arith, length-take c ss) in
-          ap (loadsIn src) (drop-cons (take c ss) i noSlot m ∙ ap₂ (λ (x : Slot) (n : ℕ). x ∷ drop n (take c ss)) (getD-take c ss i noSlot h) (sym (add-one i)))
+      next = ap (loadsIn src) (next-most ss c full i noSlot h)
 
       long : length v ≡ length (slotBytes src (getD ss i noSlot))
       long = ap length (ev ∙ ap₂ (part src) ea el)
@@ -89,13 +78,12 @@ module _ (t₀ : List ℕ) (base : ℕ) (src : List ℕ) (ss : List Slot) (c : �
       unfolding payload
       text-fits = omega (arith, T .sum, ap (λ (x : List Load). length (payload x)) next, long, length-append (slotBytes src (getD ss i noSlot)) (payload others))
 
-      pub texting-more : i < 16 → (t₁ : List ℕ) (p n : ℕ) → p ≡ pos + 1 → n ≡ length v → t₁ ≡ textPut (getD ss i noSlot .code) (cell p n) t → Texting t₀ base src ss c t₁ (pos + length v) (i + 1)
+      pub texting-more : (t₁ : List ℕ) (p n : ℕ) → p ≡ pos + 1 → n ≡ length v → t₁ ≡ textPut (getD ss i noSlot .code) (cell p n) t → Texting t₀ base src ss c t₁ (pos + length v) (i + 1)
       unfolding textsIn
-      texting-more b t₁ p n ep en e =
+      texting-more t₁ p n ep en e =
           let z : t₁ ≡ textPut (getD ss i noSlot .code) (cell (suc pos) (length (slotBytes src (getD ss i noSlot)))) t =
           e ∙ ap₂ (λ (x y : ℕ). textPut (getD ss i noSlot .code) (cell x y) t) (ep ∙ add-one pos) (en ∙ long) in
           record {
-            within = omega arith;
             rest =
                 ap₂ (λ (x : ℕ) (y : List ℕ). textsIn (pos + x) others y) long z
                 ∙ sym (ap (λ (x : List Load). textsIn pos x t) next)

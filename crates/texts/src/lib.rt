@@ -5,6 +5,7 @@ use fill::TextCell;
 use fill::get;
 use fill::put;
 use lines::part_of;
+use parts::at_most_16;
 use parts::place;
 use payload::Ends;
 use plain::Plain;
@@ -66,19 +67,16 @@ fn value_texts(t: &mut [u32], src: &[u8], p: Plain, base: usize)
 {
     let count = p.count;
     let slots = p.slots;
+    let n = at_most_16(count);
     let mut pos = base;
     let mut i = 0;
-    while i < 16 {
-        if count <= i {
-            return;
-        }
+    while i < n {
         let s = slots[i];
         let at = place(s.at);
         let len = place(s.len);
         let v = part_of(src, at, len);
-        let n = v.len();
-        put_text(t, s.code, (pos + 1) as u32, n as u32);
-        pos += n;
+        put_text(t, s.code, (pos + 1) as u32, v.len() as u32);
+        pos += v.len();
         i += 1;
     }
 }

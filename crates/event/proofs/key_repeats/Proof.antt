@@ -5,7 +5,7 @@ use Rattle.definition.specs.Event.{legible}
 use Rattle.lines.specs.Parts.{orNothing}
 use Rattle.parts.specs.Parts.{noPair}
 use Rattle.event.specs.Described.{isAmong}
-use Rattle.event.proofs.KeyLaws.{key-read, keysFrom, among-more, among-stop, among-none, past-count, past-pairs}
+use Rattle.event.proofs.KeyLaws.{key-read, keysFrom, among-more, among-stop, among-none}
 use Prim.Native.Nat.{ℕ, _<_, _+_, _-_}
 use mathlib.Core.Path.{_≡_, refl, sym, ap, _∙_}
 use native.Mathlib.Omega.{arith}
@@ -14,10 +14,10 @@ use Rattle.event.proofs.key_repeats.Statement.{statement}
 use Rattle.event.proofs.key_repeats.Tie as tie
 
 abbrev Inv-loop : tie.InvT-loop
-Inv-loop raw i count pairs at len key j₀ j = (i < j) × (isAmong (orNothing (legible key)) (keysFrom raw pairs count j) ≡ isAmong (orNothing (legible key)) (keysFrom raw pairs count (i + 1)))
+Inv-loop raw i count pairs at len key n j₀ j = (i < j) × (isAmong (orNothing (legible key)) (keysFrom raw pairs count j) ≡ isAmong (orNothing (legible key)) (keysFrom raw pairs count (i + 1)))
 
 abbrev μ-loop : tie.MeasureT-loop
-μ-loop raw i count pairs at len key j₀ j = 16 - j
+μ-loop raw i count pairs at len key n j₀ j = n - j
 
 mul-p : tie.Need-mul-p Inv-loop μ-loop
 mul-p c = search needs
@@ -34,14 +34,14 @@ place-requires-2 c κs = search needs
 part-of-requires : tie.Need-part-of-requires Inv-loop μ-loop
 part-of-requires c κs = search needs
 
+at-most-16-requires : tie.Need-at-most-16-requires Inv-loop μ-loop
+at-most-16-requires c κs = search needs
+
 add-j : tie.Need-add-j Inv-loop μ-loop
 add-j c = search needs
 
 loop-holds : tie.Need-loop-holds Inv-loop μ-loop
 loop-holds c = (search needs, refl)
-
-returns : tie.Need-returns Inv-loop μ-loop
-returns c = among-none (c .before .before .before .before .before .before .before .before .before .args .raw .now) (c .before .before .before .before .before .before .before .before .before .args .w .pairs) (c .before .before .before .before .before .before .before .before .before .args .w .count) (c .before .before .loop .j) (orNothing (legible (c .before .before .before .part-of .result .now))) (past-count (c .before .before .before .before .before .before .before .before .before .args .w .pairs) (c .before .before .before .before .before .before .before .before .before .args .w .count) (c .before .before .loop .j) (c .if1 .taken)) ∙ c .before .before .loop .inv .1 ∙ ap (λ (x : List ℕ). isAmong x (keysFrom (c .before .before .before .before .before .before .before .before .before .args .raw .now) (c .before .before .before .before .before .before .before .before .before .args .w .pairs) (c .before .before .before .before .before .before .before .before .before .args .w .count) (c .before .before .before .before .before .before .before .before .before .args .i + 1))) (key-read (c .before .before .before .before .before .before .before .before .before .args .raw .now) (getD (c .before .before .before .before .before .before .before .before .before .args .w .pairs) (c .before .before .before .before .before .before .before .before .before .args .i) noPair .key) (c .before .before .before .before .before .place .result) (c .before .before .before .before .place2 .result) (c .before .before .before .part-of .result .now) (c .before .before .before .part-of .ensures) (c .before .before .before .before .before .place .ensures .0) (c .before .before .before .before .place2 .ensures .0))
 
 mul-q : tie.Need-mul-q Inv-loop μ-loop
 mul-q c = search needs
@@ -61,8 +61,8 @@ part-of-requires-2 c κs = search needs
 same-text-requires : tie.Need-same-text-requires Inv-loop μ-loop
 same-text-requires c κs = search needs
 
-returns-2 : tie.Need-returns-2 Inv-loop μ-loop
-returns-2 c = among-stop (c .before .before .before .before .before .before .before .before .before .before .before .before .before .before .before .args .raw .now) (c .before .before .before .before .before .before .before .before .before .before .before .before .before .before .before .args .w .pairs) (c .before .before .before .before .before .before .before .before .before .before .before .before .before .before .before .args .w .count) (c .before .before .before .before .before .before .before .before .loop .j) (orNothing (legible (c .before .before .before .before .before .before .before .before .before .part-of .result .now))) (c .before .before .before .before .before .before .if1 .left) (omega (arith, simp length-map at (c .before .before .before .before .before .before .before .before .before .before .before .before .before .before .before .good .1 .0 .1 .1 .1 .1 .1 .1 .1 .1 .1 .0 .1 .0 .1))) (ap (λ (x : List ℕ). same x (orNothing (legible (c .before .before .before .before .before .before .before .before .before .part-of .result .now)))) (sym (key-read (c .before .before .before .before .before .before .before .before .before .before .before .before .before .before .before .args .raw .now) (getD (c .before .before .before .before .before .before .before .before .before .before .before .before .before .before .before .args .w .pairs) (c .before .before .before .before .before .before .before .before .loop .j) noPair .key) (c .before .before .before .before .place3 .result) (c .before .before .before .place4 .result) (c .before .before .part-of2 .result .now) (c .before .before .part-of2 .ensures) (c .before .before .before .before .place3 .ensures .0) (c .before .before .before .place4 .ensures .0))) ∙ sym (c .before .same-text .ensures) ∙ c .if2 .taken) ∙ c .before .before .before .before .before .before .before .before .loop .inv .1 ∙ ap (λ (x : List ℕ). isAmong x (keysFrom (c .before .before .before .before .before .before .before .before .before .before .before .before .before .before .before .args .raw .now) (c .before .before .before .before .before .before .before .before .before .before .before .before .before .before .before .args .w .pairs) (c .before .before .before .before .before .before .before .before .before .before .before .before .before .before .before .args .w .count) (c .before .before .before .before .before .before .before .before .before .before .before .before .before .before .before .args .i + 1))) (key-read (c .before .before .before .before .before .before .before .before .before .before .before .before .before .before .before .args .raw .now) (getD (c .before .before .before .before .before .before .before .before .before .before .before .before .before .before .before .args .w .pairs) (c .before .before .before .before .before .before .before .before .before .before .before .before .before .before .before .args .i) noPair .key) (c .before .before .before .before .before .before .before .before .before .before .before .place .result) (c .before .before .before .before .before .before .before .before .before .before .place2 .result) (c .before .before .before .before .before .before .before .before .before .part-of .result .now) (c .before .before .before .before .before .before .before .before .before .part-of .ensures) (c .before .before .before .before .before .before .before .before .before .before .before .place .ensures .0) (c .before .before .before .before .before .before .before .before .before .before .place2 .ensures .0))
+returns : tie.Need-returns Inv-loop μ-loop
+returns c = among-stop (c .before .before .before .before .before .before .before .before .before .before .before .before .before .before .before .args .raw .now) (c .before .before .before .before .before .before .before .before .before .before .before .before .before .before .before .args .w .pairs) (c .before .before .before .before .before .before .before .before .before .before .before .before .before .before .before .args .w .count) (omega (arith, simp length-map at (c .before .before .before .before .before .before .before .before .before .before .before .before .before .before .before .good .1 .0 .1 .1 .1 .1 .1 .1 .1 .1 .1 .0 .1 .0 .1))) (c .before .before .before .before .before .before .before .loop .j) (orNothing (legible (c .before .before .before .before .before .before .before .before .before .part-of .result .now))) (omega arith) (ap (λ (x : List ℕ). same x (orNothing (legible (c .before .before .before .before .before .before .before .before .before .part-of .result .now)))) (sym (key-read (c .before .before .before .before .before .before .before .before .before .before .before .before .before .before .before .args .raw .now) (getD (c .before .before .before .before .before .before .before .before .before .before .before .before .before .before .before .args .w .pairs) (c .before .before .before .before .before .before .before .loop .j) noPair .key) (c .before .before .before .before .place3 .result) (c .before .before .before .place4 .result) (c .before .before .part-of2 .result .now) (c .before .before .part-of2 .ensures) (c .before .before .before .before .place3 .ensures .0) (c .before .before .before .place4 .ensures .0))) ∙ sym (c .before .same-text .ensures) ∙ c .if1 .taken) ∙ c .before .before .before .before .before .before .before .loop .inv .1 ∙ ap (λ (x : List ℕ). isAmong x (keysFrom (c .before .before .before .before .before .before .before .before .before .before .before .before .before .before .before .args .raw .now) (c .before .before .before .before .before .before .before .before .before .before .before .before .before .before .before .args .w .pairs) (c .before .before .before .before .before .before .before .before .before .before .before .before .before .before .before .args .w .count) (c .before .before .before .before .before .before .before .before .before .before .before .before .before .before .before .args .i + 1))) (key-read (c .before .before .before .before .before .before .before .before .before .before .before .before .before .before .before .args .raw .now) (getD (c .before .before .before .before .before .before .before .before .before .before .before .before .before .before .before .args .w .pairs) (c .before .before .before .before .before .before .before .before .before .before .before .before .before .before .before .args .i) noPair .key) (c .before .before .before .before .before .before .before .before .before .before .before .place .result) (c .before .before .before .before .before .before .before .before .before .before .place2 .result) (c .before .before .before .before .before .before .before .before .before .part-of .result .now) (c .before .before .before .before .before .before .before .before .before .part-of .ensures) (c .before .before .before .before .before .before .before .before .before .before .before .place .ensures .0) (c .before .before .before .before .before .before .before .before .before .before .place2 .ensures .0))
 
 add-j-2 : tie.Need-add-j-2 Inv-loop μ-loop
 add-j-2 c = search needs
@@ -71,10 +71,10 @@ loop-less : tie.Need-loop-less Inv-loop μ-loop
 loop-less c = search needs
 
 loop-again : tie.Need-loop-again Inv-loop μ-loop
-loop-again c = (search needs, among-more (c .before .before .before .before .before .before .before .before .before .before .before .before .before .before .before .args .raw .now) (c .before .before .before .before .before .before .before .before .before .before .before .before .before .before .before .args .w .pairs) (c .before .before .before .before .before .before .before .before .before .before .before .before .before .before .before .args .w .count) (c .before .before .before .before .before .before .before .before .loop .j) (orNothing (legible (c .before .before .before .before .before .before .before .before .before .part-of .result .now))) (c .before .before .before .before .before .before .if1 .left) (omega (arith, simp length-map at (c .before .before .before .before .before .before .before .before .before .before .before .before .before .before .before .good .1 .0 .1 .1 .1 .1 .1 .1 .1 .1 .1 .0 .1 .0 .1))) (ap (λ (x : List ℕ). same x (orNothing (legible (c .before .before .before .before .before .before .before .before .before .part-of .result .now)))) (sym (key-read (c .before .before .before .before .before .before .before .before .before .before .before .before .before .before .before .args .raw .now) (getD (c .before .before .before .before .before .before .before .before .before .before .before .before .before .before .before .args .w .pairs) (c .before .before .before .before .before .before .before .before .loop .j) noPair .key) (c .before .before .before .before .place3 .result) (c .before .before .before .place4 .result) (c .before .before .part-of2 .result .now) (c .before .before .part-of2 .ensures) (c .before .before .before .before .place3 .ensures .0) (c .before .before .before .place4 .ensures .0))) ∙ sym (c .before .same-text .ensures) ∙ c .if2 .left) ∙ c .before .before .before .before .before .before .before .before .loop .inv .1)
+loop-again c = (search needs, among-more (c .before .before .before .before .before .before .before .before .before .before .before .before .before .before .before .args .raw .now) (c .before .before .before .before .before .before .before .before .before .before .before .before .before .before .before .args .w .pairs) (c .before .before .before .before .before .before .before .before .before .before .before .before .before .before .before .args .w .count) (omega (arith, simp length-map at (c .before .before .before .before .before .before .before .before .before .before .before .before .before .before .before .good .1 .0 .1 .1 .1 .1 .1 .1 .1 .1 .1 .0 .1 .0 .1))) (c .before .before .before .before .before .before .before .loop .j) (orNothing (legible (c .before .before .before .before .before .before .before .before .before .part-of .result .now))) (omega arith) (ap (λ (x : List ℕ). same x (orNothing (legible (c .before .before .before .before .before .before .before .before .before .part-of .result .now)))) (sym (key-read (c .before .before .before .before .before .before .before .before .before .before .before .before .before .before .before .args .raw .now) (getD (c .before .before .before .before .before .before .before .before .before .before .before .before .before .before .before .args .w .pairs) (c .before .before .before .before .before .before .before .loop .j) noPair .key) (c .before .before .before .before .place3 .result) (c .before .before .before .place4 .result) (c .before .before .part-of2 .result .now) (c .before .before .part-of2 .ensures) (c .before .before .before .before .place3 .ensures .0) (c .before .before .before .place4 .ensures .0))) ∙ sym (c .before .same-text .ensures) ∙ c .if1 .left) ∙ c .before .before .before .before .before .before .before .loop .inv .1)
 
-returns-3 : tie.Need-returns-3 Inv-loop μ-loop
-returns-3 c = among-none (c .before .before .before .before .before .before .before .before .args .raw .now) (c .before .before .before .before .before .before .before .before .args .w .pairs) (c .before .before .before .before .before .before .before .before .args .w .count) (c .before .loop .j) (orNothing (legible (c .before .before .part-of .result .now))) (past-pairs (c .before .before .before .before .before .before .before .before .args .w .pairs) (c .before .before .before .before .before .before .before .before .args .w .count) (c .before .loop .j) (omega (arith, simp length-map at (c .before .before .before .before .before .before .before .before .good .1 .0 .1 .1 .1 .1 .1 .1 .1 .1 .1 .0 .1 .0 .1)))) ∙ c .before .loop .inv .1 ∙ ap (λ (x : List ℕ). isAmong x (keysFrom (c .before .before .before .before .before .before .before .before .args .raw .now) (c .before .before .before .before .before .before .before .before .args .w .pairs) (c .before .before .before .before .before .before .before .before .args .w .count) (c .before .before .before .before .before .before .before .before .args .i + 1))) (key-read (c .before .before .before .before .before .before .before .before .args .raw .now) (getD (c .before .before .before .before .before .before .before .before .args .w .pairs) (c .before .before .before .before .before .before .before .before .args .i) noPair .key) (c .before .before .before .before .place .result) (c .before .before .before .place2 .result) (c .before .before .part-of .result .now) (c .before .before .part-of .ensures) (c .before .before .before .before .place .ensures .0) (c .before .before .before .place2 .ensures .0))
+returns-2 : tie.Need-returns-2 Inv-loop μ-loop
+returns-2 c = among-none (c .before .before .before .before .before .before .before .before .before .args .raw .now) (c .before .before .before .before .before .before .before .before .before .args .w .pairs) (c .before .before .before .before .before .before .before .before .before .args .w .count) (omega (arith, simp length-map at (c .before .before .before .before .before .before .before .before .before .good .1 .0 .1 .1 .1 .1 .1 .1 .1 .1 .1 .0 .1 .0 .1))) (c .before .loop .j) (orNothing (legible (c .before .before .before .part-of .result .now))) (omega arith) ∙ c .before .loop .inv .1 ∙ ap (λ (x : List ℕ). isAmong x (keysFrom (c .before .before .before .before .before .before .before .before .before .args .raw .now) (c .before .before .before .before .before .before .before .before .before .args .w .pairs) (c .before .before .before .before .before .before .before .before .before .args .w .count) (c .before .before .before .before .before .before .before .before .before .args .i + 1))) (key-read (c .before .before .before .before .before .before .before .before .before .args .raw .now) (getD (c .before .before .before .before .before .before .before .before .before .args .w .pairs) (c .before .before .before .before .before .before .before .before .before .args .i) noPair .key) (c .before .before .before .before .before .place .result) (c .before .before .before .before .place2 .result) (c .before .before .before .part-of .result .now) (c .before .before .before .part-of .ensures) (c .before .before .before .before .before .place .ensures .0) (c .before .before .before .before .place2 .ensures .0))
 
 pub key-repeats-spec : {M : Type 1} → statement M
 key-repeats-spec =
@@ -87,17 +87,17 @@ key-repeats-spec =
     place-requires
     place-requires-2
     part-of-requires
+    at-most-16-requires
     add-j
     loop-holds
-    returns
     mul-q
     array-copy-out-q
     place-requires-3
     place-requires-4
     part-of-requires-2
     same-text-requires
-    returns-2
+    returns
     add-j-2
     loop-less
     loop-again
-    returns-3)
+    returns-2)

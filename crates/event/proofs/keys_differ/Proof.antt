@@ -1,31 +1,30 @@
-use lib.ListN.{length-map}
+use lib.ListN.{length-map, take}
 use Prim.Native.Nat.{_-_}
 use mathlib.Core.Path.{_≡_, refl, sym, _∙_}
-use lib.ListN.{take}
 use native.Mathlib.Omega.{arith}
 use borrow.Author.Needs.{needs}
 use Rattle.event.specs.Described.{pairKeys, allDiffer}
-use Rattle.event.proofs.KeyLaws.{keysFrom, differ-more, differ-stop, differ-none, past-count, past-pairs}
+use Rattle.event.proofs.KeyLaws.{keysFrom, differ-more, differ-stop, differ-none}
 use Rattle.event.proofs.keys_differ.Statement.{statement}
 use Rattle.event.proofs.keys_differ.Tie as tie
 
 abbrev Inv-loop : tie.InvT-loop
-Inv-loop raw w count i₀ i = allDiffer (keysFrom raw (w .pairs) (w .count) i) ≡ allDiffer (pairKeys raw (take (w .count) (w .pairs)))
+Inv-loop raw w count n i₀ i = allDiffer (keysFrom raw (w .pairs) (w .count) i) ≡ allDiffer (pairKeys raw (take (w .count) (w .pairs)))
 
 abbrev μ-loop : tie.MeasureT-loop
-μ-loop raw w count i₀ i = 16 - i
+μ-loop raw w count n i₀ i = n - i
+
+at-most-16-requires : tie.Need-at-most-16-requires Inv-loop μ-loop
+at-most-16-requires c κs = search needs
 
 loop-holds : tie.Need-loop-holds Inv-loop μ-loop
 loop-holds c = refl
 
-returns : tie.Need-returns Inv-loop μ-loop
-returns c = differ-none (c .before .before .before .before .args .raw .now) (c .before .before .before .before .args .w .pairs) (c .before .before .before .before .args .w .count) (c .before .before .loop .i) (past-count (c .before .before .before .before .args .w .pairs) (c .before .before .before .before .args .w .count) (c .before .before .loop .i) (c .if1 .taken)) ∙ c .before .before .loop .inv
-
 key-repeats-requires : tie.Need-key-repeats-requires Inv-loop μ-loop
 key-repeats-requires c κs = search needs
 
-returns-2 : tie.Need-returns-2 Inv-loop μ-loop
-returns-2 c = differ-stop (c .before .before .before .before .before .before .args .raw .now) (c .before .before .before .before .before .before .args .w .pairs) (c .before .before .before .before .before .before .args .w .count) (c .before .before .before .before .loop .i) (c .before .before .if1 .left) (omega (arith, simp length-map at (c .before .before .before .before .before .before .good .1 .0 .1 .1 .1 .1 .1 .1 .1 .1 .1 .0 .1 .0 .1))) (sym (c .before .key-repeats .ensures) ∙ c .if2 .taken) ∙ c .before .before .before .before .loop .inv
+returns : tie.Need-returns Inv-loop μ-loop
+returns c = differ-stop (c .before .before .before .before .before .before .args .raw .now) (c .before .before .before .before .before .before .args .w .pairs) (c .before .before .before .before .before .before .args .w .count) (omega (arith, simp length-map at (c .before .before .before .before .before .before .good .1 .0 .1 .1 .1 .1 .1 .1 .1 .1 .1 .0 .1 .0 .1))) (c .before .before .before .loop .i) (omega arith) (sym (c .before .key-repeats .ensures) ∙ c .if1 .taken) ∙ c .before .before .before .loop .inv
 
 add-i : tie.Need-add-i Inv-loop μ-loop
 add-i c = search needs
@@ -34,10 +33,10 @@ loop-less : tie.Need-loop-less Inv-loop μ-loop
 loop-less c = search needs
 
 loop-again : tie.Need-loop-again Inv-loop μ-loop
-loop-again c = differ-more (c .before .before .before .before .before .before .args .raw .now) (c .before .before .before .before .before .before .args .w .pairs) (c .before .before .before .before .before .before .args .w .count) (c .before .before .before .before .loop .i) (c .before .before .if1 .left) (omega (arith, simp length-map at (c .before .before .before .before .before .before .good .1 .0 .1 .1 .1 .1 .1 .1 .1 .1 .1 .0 .1 .0 .1))) (sym (c .before .key-repeats .ensures) ∙ c .if2 .left) ∙ c .before .before .before .before .loop .inv
+loop-again c = differ-more (c .before .before .before .before .before .before .args .raw .now) (c .before .before .before .before .before .before .args .w .pairs) (c .before .before .before .before .before .before .args .w .count) (omega (arith, simp length-map at (c .before .before .before .before .before .before .good .1 .0 .1 .1 .1 .1 .1 .1 .1 .1 .1 .0 .1 .0 .1))) (c .before .before .before .loop .i) (omega arith) (sym (c .before .key-repeats .ensures) ∙ c .if1 .left) ∙ c .before .before .before .loop .inv
 
-returns-3 : tie.Need-returns-3 Inv-loop μ-loop
-returns-3 c = differ-none (c .before .before .before .args .raw .now) (c .before .before .before .args .w .pairs) (c .before .before .before .args .w .count) (c .before .loop .i) (past-pairs (c .before .before .before .args .w .pairs) (c .before .before .before .args .w .count) (c .before .loop .i) (omega (arith, simp length-map at (c .before .before .before .good .1 .0 .1 .1 .1 .1 .1 .1 .1 .1 .1 .0 .1 .0 .1)))) ∙ c .before .loop .inv
+returns-2 : tie.Need-returns-2 Inv-loop μ-loop
+returns-2 c = differ-none (c .before .before .before .before .args .raw .now) (c .before .before .before .before .args .w .pairs) (c .before .before .before .before .args .w .count) (omega (arith, simp length-map at (c .before .before .before .before .good .1 .0 .1 .1 .1 .1 .1 .1 .1 .1 .1 .0 .1 .0 .1))) (c .before .loop .i) (omega arith) ∙ c .before .loop .inv
 
 pub keys-differ-spec : {M : Type 1} → statement M
 keys-differ-spec =
@@ -45,11 +44,11 @@ keys-differ-spec =
     (tie.spec
     Inv-loop
     μ-loop
+    at-most-16-requires
     loop-holds
-    returns
     key-repeats-requires
-    returns-2
+    returns
     add-i
     loop-less
     loop-again
-    returns-3)
+    returns-2)

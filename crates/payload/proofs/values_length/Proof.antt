@@ -1,58 +1,46 @@
-use Prim.Native.Nat.{_-_}
+use Rattle.payload.proofs.PartLaws.{Summing, summing-start, summing-end, summing-more}
 use lib.ListN.{length-map}
-use borrow.Author.Needs.{needs}
+use Prim.Native.Nat.{_-_}
 use native.Mathlib.Omega.{arith}
-use Rattle.payload.proofs.PartLaws.{Summing, summing-start, summing-none, summing-end, summing-more}
+use borrow.Author.Needs.{needs}
 use Rattle.payload.proofs.values_length.Statement.{statement}
 use Rattle.payload.proofs.values_length.Tie as tie
-use Rattle.payload.proofs.values_length.Reads as reads
-use Rattle.payload.proofs.values_length.Lts as lts
-use Rattle.plain.proofs.bytes_of.Reads as bytes-of-reads
 
 abbrev Inv-loop : tie.InvT-loop
-Inv-loop src count slots sum₀ i₀ sum i = Summing src slots count sum i
+Inv-loop src count slots n sum₀ i₀ sum i = Summing src slots count sum i
 
 abbrev μ-loop : tie.MeasureT-loop
-μ-loop src count slots sum₀ i₀ sum i = 16 - i
+μ-loop src count slots n sum₀ i₀ sum i = n - i
 
--- src/lib.rt:108:5
+at-most-16-requires : tie.Need-at-most-16-requires Inv-loop μ-loop
+at-most-16-requires c κs = search needs
+
 loop-holds : tie.Need-loop-holds Inv-loop μ-loop
-loop-holds c = summing-start (c .before .before .args .src .now) (c .before .before .args .p .slots) (c .before .before .args .p .count)
+loop-holds c = summing-start (c .before .before .before .args .src .now) (c .before .before .before .args .p .slots) (c .before .before .before .args .p .count) (simp length-map at (c .before .before .before .good .1 .0 .1 .1 .1 .1 .1 .1 .1 .0 .1 .0 .1))
 
--- src/lib.rt:110:13
-returns : tie.Need-returns Inv-loop μ-loop
-returns c = summing-none (c .before .before .before .before .before .args .src .now) (c .before .before .before .before .before .args .p .slots) (c .before .before .before .before .before .args .p .count) (c .before .before .loop .sum) (c .before .before .loop .i) (c .before .before .loop .inv) (c .if1 .taken)
-
--- src/lib.rt:112:17
 mul-s : tie.Need-mul-s Inv-loop μ-loop
-mul-s c = omega (arith, c .before .before .loop .inv .few)
+mul-s c = search needs
 
--- src/lib.rt:112:17
 array-copy-out-s : tie.Need-array-copy-out-s Inv-loop μ-loop
-array-copy-out-s c = omega (arith, c .before .loop-test .taken)
+array-copy-out-s c = search needs
 
 bytes-of-requires : tie.Need-bytes-of-requires Inv-loop μ-loop
 bytes-of-requires c κs = search needs
 
--- src/lib.rt:116:9
 add-sum : tie.Need-add-sum Inv-loop μ-loop
-add-sum c = omega (arith, c .before .before .before .before .loop .inv .bound, c .before .before .before .before .loop .inv .few, c .bytes-of .ensures .1)
+add-sum c = omega (arith, c .before .before .before .loop .inv .bound, c .before .before .before .loop .inv .few, c .bytes-of .ensures .1)
 
--- src/lib.rt:117:9
 add-i : tie.Need-add-i Inv-loop μ-loop
-add-i c = omega (arith, c .before .before .before .before .loop .inv .few)
+add-i c = search needs
 
--- src/lib.rt:108:5
 loop-less : tie.Need-loop-less Inv-loop μ-loop
-loop-less c = omega (arith, c .before .before .before .loop-test .taken)
+loop-less c = search needs
 
--- src/lib.rt:108:5
 loop-again : tie.Need-loop-again Inv-loop μ-loop
-loop-again c = summing-more (c .before .before .before .before .before .before .before .args .src .now) (c .before .before .before .before .before .before .before .args .p .slots) (c .before .before .before .before .before .before .before .args .p .count) (c .before .before .before .before .loop .sum) (c .before .before .before .before .loop .i) (c .before .before .before .before .loop .inv) (c .before .before .if1 .left) (omega (arith, c .before .before .before .loop-test .taken, (simp length-map at (c .before .before .before .before .before .before .before .good .1 .0 .1 .1 .1 .1 .1 .1 .1 .0 .1 .0 .1)))) (c .before .before .before .loop-test .taken) _ (c .bytes-of .ensures .0) (c .bytes-of .ensures .1)
+loop-again c = summing-more (c .before .before .before .before .before .before .before .args .src .now) (c .before .before .before .before .before .before .before .args .p .slots) (c .before .before .before .before .before .before .before .args .p .count) (simp length-map at (c .before .before .before .before .before .before .before .good .1 .0 .1 .1 .1 .1 .1 .1 .1 .0 .1 .0 .1)) (c .before .before .before .loop .sum) (c .before .before .before .loop .i) (c .before .before .before .loop .inv) (omega arith) _ (c .bytes-of .ensures .0) (c .bytes-of .ensures .1)
 
--- src/lib.rt:100:1
-returns-2 : tie.Need-returns-2 Inv-loop μ-loop
-returns-2 c = summing-end (c .before .before .before .before .args .src .now) (c .before .before .before .before .args .p .slots) (c .before .before .before .before .args .p .count) (c .before .loop .sum) (c .before .loop .i) (c .before .loop .inv) (omega (arith, c .loop-test .left, (simp length-map at (c .before .before .before .before .good .1 .0 .1 .1 .1 .1 .1 .1 .1 .0 .1 .0 .1))))
+returns : tie.Need-returns Inv-loop μ-loop
+returns c = summing-end (c .before .before .before .before .before .args .src .now) (c .before .before .before .before .before .args .p .slots) (c .before .before .before .before .before .args .p .count) (simp length-map at (c .before .before .before .before .before .good .1 .0 .1 .1 .1 .1 .1 .1 .1 .0 .1 .0 .1)) (c .before .loop .sum) (c .before .loop .i) (c .before .loop .inv) (omega arith)
 
 pub values-length-spec : {M : Type 1} → statement M
 values-length-spec =
@@ -60,8 +48,8 @@ values-length-spec =
     (tie.spec
     Inv-loop
     μ-loop
+    at-most-16-requires
     loop-holds
-    returns
     mul-s
     array-copy-out-s
     bytes-of-requires
@@ -69,4 +57,4 @@ values-length-spec =
     add-i
     loop-less
     loop-again
-    returns-2)
+    returns)

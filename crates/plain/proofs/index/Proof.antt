@@ -5,10 +5,6 @@ use native.Mathlib.Omega.{arith}
 use Rattle.plain.proofs.KeyLaws.{Indexing, indexing-start, indexing-more, indexing-end}
 use Rattle.plain.proofs.index.Statement.{statement}
 use Rattle.plain.proofs.index.Tie as tie
-use Rattle.plain.proofs.index.Reads as reads
-use Rattle.plain.proofs.index.Lts as lts
-use Rattle.plain.proofs.at_most_16.Reads as at-most-16-reads
-use Rattle.plain.proofs.key_place.Reads as key-place-reads
 
 abbrev Inv-loop : tie.InvT-loop
 Inv-loop count slots at₀ i₀ at i = Indexing slots count at i
@@ -16,51 +12,39 @@ Inv-loop count slots at₀ i₀ at i = Indexing slots count at i
 abbrev μ-loop : tie.MeasureT-loop
 μ-loop count slots at₀ i₀ at i = i
 
--- src/lib.rt:39:9
 at-most-16-requires : tie.Need-at-most-16-requires Inv-loop μ-loop
 at-most-16-requires c κs = search needs
 
--- src/lib.rt:40:5
 loop-holds : tie.Need-loop-holds Inv-loop μ-loop
 loop-holds c = indexing-start (c .before .before .args .p .slots) (c .before .before .args .p .count) (simp length-map at (c .before .before .good .0 .1 .1 .1 .1 .1 .1 .1 .0 .1 .0 .1)) _ (c .at-most-16 .ensures .0)
 
--- src/lib.rt:41:9
 sub-i : tie.Need-sub-i Inv-loop μ-loop
 sub-i c = search needs
 
--- src/lib.rt:42:17
 mul-s : tie.Need-mul-s Inv-loop μ-loop
-mul-s c = omega (arith, c .before .loop .inv .small)
+mul-s c = omega (arith, c .before .loop .inv .few)
 
--- src/lib.rt:42:17
 array-copy-out-s : tie.Need-array-copy-out-s Inv-loop μ-loop
-array-copy-out-s c = omega (arith, c .before .loop .inv .small, c .loop-test .taken)
+array-copy-out-s c = omega (arith, c .before .loop .inv .few, c .loop-test .taken)
 
--- src/lib.rt:43:13
 key-place-requires : tie.Need-key-place-requires Inv-loop μ-loop
 key-place-requires c κs = search needs
 
--- src/lib.rt:44:18
 add-at : tie.Need-add-at Inv-loop μ-loop
-add-at c = omega (arith, c .before .before .before .loop .inv .small)
+add-at c = omega (arith, c .before .before .before .loop .inv .few)
 
--- src/lib.rt:44:17
 cast-at : tie.Need-cast-at Inv-loop μ-loop
-cast-at c = omega (arith, c .before .before .before .loop .inv .small)
+cast-at c = omega (arith, c .before .before .before .loop .inv .few)
 
--- src/lib.rt:44:9
 array-write-at : tie.Need-array-write-at Inv-loop μ-loop
 array-write-at c = omega (arith, c .key-place .ensures .1)
 
--- src/lib.rt:40:5
 loop-less : tie.Need-loop-less Inv-loop μ-loop
 loop-less c = omega (arith, c .before .before .loop-test .taken)
 
--- src/lib.rt:40:5
 loop-again : tie.Need-loop-again Inv-loop μ-loop
 loop-again c = indexing-more (c .before .before .before .before .before .before .args .p .slots) (c .before .before .before .before .before .before .args .p .count) (simp length-map at (c .before .before .before .before .before .before .good .0 .1 .1 .1 .1 .1 .1 .1 .0 .1 .0 .1)) (c .before .before .before .loop .at) (c .before .before .before .loop .i) _ (c .before .before .loop-test .taken) refl (c .before .before .before .loop .inv) _ (c .key-place .ensures .0)
 
--- src/lib.rt:33:1
 returns : tie.Need-returns Inv-loop μ-loop
 returns c = indexing-end (c .before .before .before .before .args .p .slots) (c .before .before .before .before .args .p .count) (simp length-map at (c .before .before .before .before .good .0 .1 .1 .1 .1 .1 .1 .1 .0 .1 .0 .1)) (c .before .loop .at) (c .before .loop .i) (c .loop-test .left) (c .before .loop .inv)
 

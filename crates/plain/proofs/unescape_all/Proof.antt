@@ -1,4 +1,4 @@
-use Rattle.plain.proofs.CopyLaws.{Copying, name-small, text-fits, text-small, copying-start, size-end, parsed-all, copy-fits, copy-small, copying-more, copied-all, copied-sixteen}
+use Rattle.plain.proofs.CopyLaws.{Copying, name-small, text-fits, text-small, copying-start, size-end, parsed-all, copy-fits, copy-small, copying-more, copied-all}
 use Rattle.plain.specs.Plain.{slotBytes}
 use lib.ListN.{length, length-map}
 use mathlib.Core.Path.{refl}
@@ -7,93 +7,66 @@ use native.Mathlib.Omega.{arith}
 use borrow.Author.Needs.{needs}
 use Rattle.plain.proofs.unescape_all.Statement.{statement}
 use Rattle.plain.proofs.unescape_all.Tie as tie
-use Rattle.plain.proofs.unescape_all.Reads as reads
-use Rattle.plain.proofs.unescape_all.Lts as lts
-use Rattle.plain.proofs.copy_part.Reads as copy-part-reads
-use Rattle.plain.proofs.slot_at.Reads as slot-at-reads
-use Rattle.plain.proofs.text_of.Reads as text-of-reads
 
 abbrev Inv-loop : tie.InvT-loop
-Inv-loop out₀ raw kind tag count pairs first name second text slots₀ pos₀ i₀ out slots pos i = Copying raw pairs count (length out₀) name text (slotBytes out₀ name) (slotBytes out₀ text) out slots pos i
+Inv-loop out₀ raw kind tag count pairs first name second text n slots₀ pos₀ i₀ out slots pos i = Copying raw pairs count (length out₀) name text (slotBytes out₀ name) (slotBytes out₀ text) out slots pos i
 
 abbrev μ-loop : tie.MeasureT-loop
-μ-loop out₀ raw kind tag count pairs first name second text slots₀ pos₀ i₀ out slots pos i = 16 - i
+μ-loop out₀ raw kind tag count pairs first name second text n slots₀ pos₀ i₀ out slots pos i = n - i
 
--- src/lib.rt:167:9
 text-of-requires : tie.Need-text-of-requires Inv-loop μ-loop
 text-of-requires c κs = search needs
 
--- src/lib.rt:168:9
 copy-part-requires : tie.Need-copy-part-requires Inv-loop μ-loop
 copy-part-requires c κs = omega (arith, c .before .before .before .before .before .before .before .pre .fits)
 
--- src/lib.rt:169:9
 slot-at-requires : tie.Need-slot-at-requires Inv-loop μ-loop
 slot-at-requires c κs = name-small (c .before .before .before .before .before .before .before .before .before .before .args .raw .now) (c .before .before .before .before .before .before .before .before .before .before .args .d) (c .before .before .before .before .before .before .before .before .before .before .args .out .now) (c .before .before .before .before .before .before .before .before .before .before .pre) (c .before .before .before .before .text-of .result) (c .before .before .before .before .text-of .ensures) (c .before .before .copy-part .last .0) (c .before .before .copy-part .result) (c .before .before .copy-part .ensures .1) (c .before .before .copy-part .ensures .0)
 
--- src/lib.rt:170:9
 copy-part-requires-2 : tie.Need-copy-part-requires-2 Inv-loop μ-loop
 copy-part-requires-2 c κs = text-fits (c .before .before .before .before .before .before .before .before .before .before .before .before .args .raw .now) (c .before .before .before .before .before .before .before .before .before .before .before .before .args .d) (c .before .before .before .before .before .before .before .before .before .before .before .before .args .out .now) (c .before .before .before .before .before .before .before .before .before .before .before .before .pre) (c .before .before .before .before .before .before .text-of .result) (c .before .before .before .before .before .before .text-of .ensures) (c .before .before .before .before .copy-part .last .0) (c .before .before .before .before .copy-part .result) (c .before .before .before .before .copy-part .ensures .1) (c .before .before .before .before .copy-part .ensures .0)
 
--- src/lib.rt:171:9
 slot-at-requires-2 : tie.Need-slot-at-requires-2 Inv-loop μ-loop
 slot-at-requires-2 c κs = text-small (c .before .before .before .before .before .before .before .before .before .before .before .before .before .before .before .args .raw .now) (c .before .before .before .before .before .before .before .before .before .before .before .before .before .before .before .args .d) (c .before .before .before .before .before .before .before .before .before .before .before .before .before .before .before .args .out .now) (c .before .before .before .before .before .before .before .before .before .before .before .before .before .before .before .pre) (c .before .before .before .before .before .before .before .before .before .text-of .result) (c .before .before .before .before .before .before .before .before .before .text-of .ensures) (c .before .before .before .before .before .before .before .copy-part .last .0) (c .before .before .before .before .before .before .before .copy-part .result) (c .before .before .before .before .before .before .before .copy-part .ensures .1) (c .before .before .before .before .before .before .before .copy-part .ensures .0) (c .before .before .before .before .slot-at .result) (c .before .before .before .before .slot-at .ensures) (c .before .before .copy-part2 .last .0) (c .before .before .copy-part2 .result) (c .before .before .copy-part2 .ensures .1) (c .before .before .copy-part2 .ensures .0)
 
--- src/lib.rt:175:5
+at-most-16-requires : tie.Need-at-most-16-requires Inv-loop μ-loop
+at-most-16-requires c κs = search needs
+
 loop-holds : tie.Need-loop-holds Inv-loop μ-loop
-loop-holds c = copying-start (c .before .before .before .before .before .before .before .before .before .before .before .before .before .before .before .before .args .raw .now) (c .before .before .before .before .before .before .before .before .before .before .before .before .before .before .before .before .args .d) (c .before .before .before .before .before .before .before .before .before .before .before .before .before .before .before .before .args .out .now) (c .before .before .before .before .before .before .before .before .before .before .before .before .before .before .before .before .pre) (c .before .before .before .before .before .before .before .before .before .before .text-of .result) (c .before .before .before .before .before .before .before .before .before .before .text-of .ensures) (c .before .before .before .before .before .before .before .before .copy-part .last .0) (c .before .before .before .before .before .before .before .before .copy-part .result) (c .before .before .before .before .before .before .before .before .copy-part .ensures .1) (c .before .before .before .before .before .before .before .before .copy-part .ensures .0) (c .before .before .before .before .before .slot-at .result) (c .before .before .before .before .before .slot-at .ensures) (c .before .before .before .copy-part2 .last .0) (c .before .before .before .copy-part2 .result) (c .before .before .before .copy-part2 .ensures .1) (c .before .before .before .copy-part2 .ensures .0) (c .slot-at2 .result) (c .slot-at2 .ensures) _ refl
+loop-holds c = copying-start (c .before .before .before .before .before .before .before .before .before .before .before .before .before .before .before .before .before .args .raw .now) (c .before .before .before .before .before .before .before .before .before .before .before .before .before .before .before .before .before .args .d) (c .before .before .before .before .before .before .before .before .before .before .before .before .before .before .before .before .before .args .out .now) (c .before .before .before .before .before .before .before .before .before .before .before .before .before .before .before .before .before .pre) (c .before .before .before .before .before .before .before .before .before .before .before .text-of .result) (c .before .before .before .before .before .before .before .before .before .before .before .text-of .ensures) (c .before .before .before .before .before .before .before .before .before .copy-part .last .0) (c .before .before .before .before .before .before .before .before .before .copy-part .result) (c .before .before .before .before .before .before .before .before .before .copy-part .ensures .1) (c .before .before .before .before .before .before .before .before .before .copy-part .ensures .0) (c .before .before .before .before .before .before .slot-at .result) (c .before .before .before .before .before .before .slot-at .ensures) (c .before .before .before .before .copy-part2 .last .0) (c .before .before .before .before .copy-part2 .result) (c .before .before .before .before .copy-part2 .ensures .1) (c .before .before .before .before .copy-part2 .ensures .0) (c .before .slot-at2 .result) (c .before .slot-at2 .ensures) _ refl
 
--- src/lib.rt:177:13
-same-length : tie.Need-same-length Inv-loop μ-loop
-same-length c = size-end (c .before .before .before .before .before .before .before .before .before .before .before .before .before .before .before .before .before .before .before .args .raw .now) (c .before .before .before .before .before .before .before .before .before .before .before .before .before .before .before .before .before .before .before .args .d) (c .before .before .before .before .before .before .before .before .before .before .before .before .before .before .before .before .before .before .before .args .out .now) (c .before .before .before .before .before .before .before .before .before .before .before .before .before .before .before .before .before .before .before .pre) (c .before .before .before .before .before .before .before .before .before .before .before .before .before .text-of .result) (c .before .before .before .before .before .before .before .before .before .before .before .before .before .text-of .ensures) (c .before .before .before .before .before .before .before .before .before .before .before .copy-part .last .0) (c .before .before .before .before .before .before .before .before .before .before .before .copy-part .result) (c .before .before .before .before .before .before .before .before .before .before .before .copy-part .ensures .1) (c .before .before .before .before .before .before .before .before .before .before .before .copy-part .ensures .0) (c .before .before .before .before .before .before .before .before .slot-at .result) (c .before .before .before .before .before .before .before .before .slot-at .ensures) (c .before .before .before .before .before .before .copy-part2 .last .0) (c .before .before .before .before .before .before .copy-part2 .result) (c .before .before .before .before .before .before .copy-part2 .ensures .1) (c .before .before .before .before .before .before .copy-part2 .ensures .0) (c .before .before .before .slot-at2 .result) (c .before .before .before .slot-at2 .ensures) (c .before .before .loop .out) (c .before .before .loop .slots) (c .before .before .loop .pos) (c .before .before .loop .i) (c .before .before .loop .inv)
-
--- src/lib.rt:177:13
-returns : tie.Need-returns Inv-loop μ-loop
-returns c = parsed-all (c .before .before .before .before .before .before .before .before .before .before .before .before .before .before .before .before .before .before .before .args .raw .now) (c .before .before .before .before .before .before .before .before .before .before .before .before .before .before .before .before .before .before .before .args .d) (c .before .before .before .before .before .before .before .before .before .before .before .before .before .before .before .before .before .before .before .args .out .now) (c .before .before .before .before .before .before .before .before .before .before .before .before .before .before .before .before .before .before .before .pre) (c .before .before .before .before .before .before .before .before .before .before .before .before .before .text-of .result) (c .before .before .before .before .before .before .before .before .before .before .before .before .before .text-of .ensures) (c .before .before .before .before .before .before .before .before .before .before .before .copy-part .last .0) (c .before .before .before .before .before .before .before .before .before .before .before .copy-part .result) (c .before .before .before .before .before .before .before .before .before .before .before .copy-part .ensures .1) (c .before .before .before .before .before .before .before .before .before .before .before .copy-part .ensures .0) (c .before .before .before .before .before .before .before .before .slot-at .result) (c .before .before .before .before .before .before .before .before .slot-at .ensures) (c .before .before .before .before .before .before .copy-part2 .last .0) (c .before .before .before .before .before .before .copy-part2 .result) (c .before .before .before .before .before .before .copy-part2 .ensures .1) (c .before .before .before .before .before .before .copy-part2 .ensures .0) (c .before .before .before .slot-at2 .result) (c .before .before .before .slot-at2 .ensures) (c .before .before .loop .out) (c .before .before .loop .slots) (c .before .before .loop .pos) (c .before .before .loop .i) (c .before .before .loop .inv) (copied-all (c .before .before .before .before .before .before .before .before .before .before .before .before .before .before .before .before .before .before .before .args .raw .now) (c .before .before .before .before .before .before .before .before .before .before .before .before .before .before .before .before .before .before .before .args .d .pairs) (c .before .before .before .before .before .before .before .before .before .before .before .before .before .before .before .before .before .before .before .args .d .count) (omega (arith, simp length-map at (c .before .before .before .before .before .before .before .before .before .before .before .before .before .before .before .before .before .before .before .good .1 .1 .0 .1 .1 .1 .1 .1 .1 .1 .0 .1 .0 .1))) _ _ _ _ _ (c .before .before .loop .out) (c .before .before .loop .slots) (c .before .before .loop .pos) (c .before .before .loop .i) (c .before .before .loop .inv) (c .if1 .taken))
-
--- src/lib.rt:186:17
 mul-p : tie.Need-mul-p Inv-loop μ-loop
 mul-p c = search needs
 
--- src/lib.rt:186:17
 array-copy-out-p : tie.Need-array-copy-out-p Inv-loop μ-loop
 array-copy-out-p c = search needs
 
--- src/lib.rt:188:13
 copy-part-requires-3 : tie.Need-copy-part-requires-3 Inv-loop μ-loop
-copy-part-requires-3 c κs = copy-fits (c .before .before .before .before .before .before .before .before .before .before .before .before .before .before .before .before .before .before .before .before .before .before .args .raw .now) (c .before .before .before .before .before .before .before .before .before .before .before .before .before .before .before .before .before .before .before .before .before .before .args .d .pairs) (c .before .before .before .before .before .before .before .before .before .before .before .before .before .before .before .before .before .before .before .before .before .before .args .d .count) (omega (arith, simp length-map at (c .before .before .before .before .before .before .before .before .before .before .before .before .before .before .before .before .before .before .before .before .before .before .good .1 .1 .0 .1 .1 .1 .1 .1 .1 .1 .0 .1 .0 .1))) _ _ _ _ _ (c .before .before .before .before .before .loop .out) (c .before .before .before .before .before .loop .slots) (c .before .before .before .before .before .loop .pos) (c .before .before .before .before .before .loop .i) (c .before .before .before .before .before .loop .inv) (c .before .before .before .if1 .left) (c .before .before .before .before .loop-test .taken)
+copy-part-requires-3 c κs = copy-fits (c .before .before .before .before .before .before .before .before .before .before .before .before .before .before .before .before .before .before .before .before .before .before .args .raw .now) (c .before .before .before .before .before .before .before .before .before .before .before .before .before .before .before .before .before .before .before .before .before .before .args .d .pairs) (c .before .before .before .before .before .before .before .before .before .before .before .before .before .before .before .before .before .before .before .before .before .before .args .d .count) (simp length-map at (c .before .before .before .before .before .before .before .before .before .before .before .before .before .before .before .before .before .before .before .before .before .before .good .1 .1 .0 .1 .1 .1 .1 .1 .1 .1 .0 .1 .0 .1)) _ _ _ _ _ (c .before .before .before .before .loop .out) (c .before .before .before .before .loop .slots) (c .before .before .before .before .loop .pos) (c .before .before .before .before .loop .i) (c .before .before .before .before .loop .inv) (omega arith)
 
--- src/lib.rt:189:13
 slot-at-requires-3 : tie.Need-slot-at-requires-3 Inv-loop μ-loop
-slot-at-requires-3 c κs = copy-small (c .before .before .before .before .before .before .before .before .before .before .before .before .before .before .before .before .before .before .before .before .before .before .before .before .before .args .raw .now) (c .before .before .before .before .before .before .before .before .before .before .before .before .before .before .before .before .before .before .before .before .before .before .before .before .before .args .d .pairs) (c .before .before .before .before .before .before .before .before .before .before .before .before .before .before .before .before .before .before .before .before .before .before .before .before .before .args .d .count) (omega (arith, simp length-map at (c .before .before .before .before .before .before .before .before .before .before .before .before .before .before .before .before .before .before .before .before .before .before .before .before .before .good .1 .1 .0 .1 .1 .1 .1 .1 .1 .1 .0 .1 .0 .1))) _ _ _ _ _ (c .before .before .before .before .before .before .before .before .loop .out) (c .before .before .before .before .before .before .before .before .loop .slots) (c .before .before .before .before .before .before .before .before .loop .pos) (c .before .before .before .before .before .before .before .before .loop .i) (c .before .before .before .before .before .before .before .before .loop .inv) (c .before .before .before .before .before .before .if1 .left) (c .before .before .before .before .before .before .before .loop-test .taken) (c .before .before .copy-part3 .result) (c .before .before .copy-part3 .ensures .0)
+slot-at-requires-3 c κs = copy-small (c .before .before .before .before .before .before .before .before .before .before .before .before .before .before .before .before .before .before .before .before .before .before .before .before .before .args .raw .now) (c .before .before .before .before .before .before .before .before .before .before .before .before .before .before .before .before .before .before .before .before .before .before .before .before .before .args .d .pairs) (c .before .before .before .before .before .before .before .before .before .before .before .before .before .before .before .before .before .before .before .before .before .before .before .before .before .args .d .count) (simp length-map at (c .before .before .before .before .before .before .before .before .before .before .before .before .before .before .before .before .before .before .before .before .before .before .before .before .before .good .1 .1 .0 .1 .1 .1 .1 .1 .1 .1 .0 .1 .0 .1)) _ _ _ _ _ (c .before .before .before .before .before .before .before .loop .out) (c .before .before .before .before .before .before .before .loop .slots) (c .before .before .before .before .before .before .before .loop .pos) (c .before .before .before .before .before .before .before .loop .i) (c .before .before .before .before .before .before .before .loop .inv) (omega arith) (c .before .before .copy-part3 .result) (c .before .before .copy-part3 .ensures .0)
 
--- src/lib.rt:190:9
 mul-slots : tie.Need-mul-slots Inv-loop μ-loop
 mul-slots c = search needs
 
--- src/lib.rt:190:9
 array-set-from-slots : tie.Need-array-set-from-slots Inv-loop μ-loop
 array-set-from-slots c = search needs
 
--- src/lib.rt:192:9
 add-i : tie.Need-add-i Inv-loop μ-loop
 add-i c = search needs
 
--- src/lib.rt:175:5
 loop-less : tie.Need-loop-less Inv-loop μ-loop
 loop-less c = search needs
 
--- src/lib.rt:175:5
 loop-again : tie.Need-loop-again Inv-loop μ-loop
-loop-again c = copying-more (c .before .before .before .before .before .before .before .before .before .before .before .before .before .before .before .before .before .before .before .before .before .before .before .before .before .before .args .raw .now) (c .before .before .before .before .before .before .before .before .before .before .before .before .before .before .before .before .before .before .before .before .before .before .before .before .before .before .args .d .pairs) (c .before .before .before .before .before .before .before .before .before .before .before .before .before .before .before .before .before .before .before .before .before .before .before .before .before .before .args .d .count) (omega (arith, simp length-map at (c .before .before .before .before .before .before .before .before .before .before .before .before .before .before .before .before .before .before .before .before .before .before .before .before .before .before .good .1 .1 .0 .1 .1 .1 .1 .1 .1 .1 .0 .1 .0 .1))) _ _ _ _ _ (c .before .before .before .before .before .before .before .before .before .loop .out) (c .before .before .before .before .before .before .before .before .before .loop .slots) (c .before .before .before .before .before .before .before .before .before .loop .pos) (c .before .before .before .before .before .before .before .before .before .loop .i) (c .before .before .before .before .before .before .before .before .before .loop .inv) (c .before .before .before .before .before .before .before .if1 .left) (c .before .before .before .before .before .before .before .before .loop-test .taken) _ _ _ (c .before .before .before .copy-part3 .ensures .1) (c .before .before .before .copy-part3 .ensures .0) (c .slot-at3 .ensures)
+loop-again c = copying-more (c .before .before .before .before .before .before .before .before .before .before .before .before .before .before .before .before .before .before .before .before .before .before .before .before .before .before .args .raw .now) (c .before .before .before .before .before .before .before .before .before .before .before .before .before .before .before .before .before .before .before .before .before .before .before .before .before .before .args .d .pairs) (c .before .before .before .before .before .before .before .before .before .before .before .before .before .before .before .before .before .before .before .before .before .before .before .before .before .before .args .d .count) (simp length-map at (c .before .before .before .before .before .before .before .before .before .before .before .before .before .before .before .before .before .before .before .before .before .before .before .before .before .before .good .1 .1 .0 .1 .1 .1 .1 .1 .1 .1 .0 .1 .0 .1)) _ _ _ _ _ (c .before .before .before .before .before .before .before .before .loop .out) (c .before .before .before .before .before .before .before .before .loop .slots) (c .before .before .before .before .before .before .before .before .loop .pos) (c .before .before .before .before .before .before .before .before .loop .i) (c .before .before .before .before .before .before .before .before .loop .inv) (omega arith) _ _ _ (c .before .before .before .copy-part3 .ensures .1) (c .before .before .before .copy-part3 .ensures .0) (c .slot-at3 .ensures)
 
--- src/lib.rt:157:1
-same-length-2 : tie.Need-same-length-2 Inv-loop μ-loop
-same-length-2 c = size-end (c .before .before .before .before .before .before .before .before .before .before .before .before .before .before .before .before .before .before .args .raw .now) (c .before .before .before .before .before .before .before .before .before .before .before .before .before .before .before .before .before .before .args .d) (c .before .before .before .before .before .before .before .before .before .before .before .before .before .before .before .before .before .before .args .out .now) (c .before .before .before .before .before .before .before .before .before .before .before .before .before .before .before .before .before .before .pre) (c .before .before .before .before .before .before .before .before .before .before .before .before .text-of .result) (c .before .before .before .before .before .before .before .before .before .before .before .before .text-of .ensures) (c .before .before .before .before .before .before .before .before .before .before .copy-part .last .0) (c .before .before .before .before .before .before .before .before .before .before .copy-part .result) (c .before .before .before .before .before .before .before .before .before .before .copy-part .ensures .1) (c .before .before .before .before .before .before .before .before .before .before .copy-part .ensures .0) (c .before .before .before .before .before .before .before .slot-at .result) (c .before .before .before .before .before .before .before .slot-at .ensures) (c .before .before .before .before .before .copy-part2 .last .0) (c .before .before .before .before .before .copy-part2 .result) (c .before .before .before .before .before .copy-part2 .ensures .1) (c .before .before .before .before .before .copy-part2 .ensures .0) (c .before .before .slot-at2 .result) (c .before .before .slot-at2 .ensures) (c .before .loop .out) (c .before .loop .slots) (c .before .loop .pos) (c .before .loop .i) (c .before .loop .inv)
+same-length : tie.Need-same-length Inv-loop μ-loop
+same-length c = size-end (c .before .before .before .before .before .before .before .before .before .before .before .before .before .before .before .before .before .before .before .args .raw .now) (c .before .before .before .before .before .before .before .before .before .before .before .before .before .before .before .before .before .before .before .args .d) (c .before .before .before .before .before .before .before .before .before .before .before .before .before .before .before .before .before .before .before .args .out .now) (c .before .before .before .before .before .before .before .before .before .before .before .before .before .before .before .before .before .before .before .pre) (c .before .before .before .before .before .before .before .before .before .before .before .before .before .text-of .result) (c .before .before .before .before .before .before .before .before .before .before .before .before .before .text-of .ensures) (c .before .before .before .before .before .before .before .before .before .before .before .copy-part .last .0) (c .before .before .before .before .before .before .before .before .before .before .before .copy-part .result) (c .before .before .before .before .before .before .before .before .before .before .before .copy-part .ensures .1) (c .before .before .before .before .before .before .before .before .before .before .before .copy-part .ensures .0) (c .before .before .before .before .before .before .before .before .slot-at .result) (c .before .before .before .before .before .before .before .before .slot-at .ensures) (c .before .before .before .before .before .before .copy-part2 .last .0) (c .before .before .before .before .before .before .copy-part2 .result) (c .before .before .before .before .before .before .copy-part2 .ensures .1) (c .before .before .before .before .before .before .copy-part2 .ensures .0) (c .before .before .before .slot-at2 .result) (c .before .before .before .slot-at2 .ensures) (c .before .loop .out) (c .before .loop .slots) (c .before .loop .pos) (c .before .loop .i) (c .before .loop .inv)
 
--- src/lib.rt:157:1
-returns-2 : tie.Need-returns-2 Inv-loop μ-loop
-returns-2 c = parsed-all (c .before .before .before .before .before .before .before .before .before .before .before .before .before .before .before .before .before .before .args .raw .now) (c .before .before .before .before .before .before .before .before .before .before .before .before .before .before .before .before .before .before .args .d) (c .before .before .before .before .before .before .before .before .before .before .before .before .before .before .before .before .before .before .args .out .now) (c .before .before .before .before .before .before .before .before .before .before .before .before .before .before .before .before .before .before .pre) (c .before .before .before .before .before .before .before .before .before .before .before .before .text-of .result) (c .before .before .before .before .before .before .before .before .before .before .before .before .text-of .ensures) (c .before .before .before .before .before .before .before .before .before .before .copy-part .last .0) (c .before .before .before .before .before .before .before .before .before .before .copy-part .result) (c .before .before .before .before .before .before .before .before .before .before .copy-part .ensures .1) (c .before .before .before .before .before .before .before .before .before .before .copy-part .ensures .0) (c .before .before .before .before .before .before .before .slot-at .result) (c .before .before .before .before .before .before .before .slot-at .ensures) (c .before .before .before .before .before .copy-part2 .last .0) (c .before .before .before .before .before .copy-part2 .result) (c .before .before .before .before .before .copy-part2 .ensures .1) (c .before .before .before .before .before .copy-part2 .ensures .0) (c .before .before .slot-at2 .result) (c .before .before .slot-at2 .ensures) (c .before .loop .out) (c .before .loop .slots) (c .before .loop .pos) (c .before .loop .i) (c .before .loop .inv) (copied-sixteen (c .before .before .before .before .before .before .before .before .before .before .before .before .before .before .before .before .before .before .args .raw .now) (c .before .before .before .before .before .before .before .before .before .before .before .before .before .before .before .before .before .before .args .d .pairs) (c .before .before .before .before .before .before .before .before .before .before .before .before .before .before .before .before .before .before .args .d .count) (omega (arith, simp length-map at (c .before .before .before .before .before .before .before .before .before .before .before .before .before .before .before .before .before .before .good .1 .1 .0 .1 .1 .1 .1 .1 .1 .1 .0 .1 .0 .1))) _ _ _ _ _ (c .before .loop .out) (c .before .loop .slots) (c .before .loop .pos) (c .before .loop .i) (c .before .loop .inv) (c .loop-test .left))
+returns : tie.Need-returns Inv-loop μ-loop
+returns c = parsed-all (c .before .before .before .before .before .before .before .before .before .before .before .before .before .before .before .before .before .before .before .args .raw .now) (c .before .before .before .before .before .before .before .before .before .before .before .before .before .before .before .before .before .before .before .args .d) (c .before .before .before .before .before .before .before .before .before .before .before .before .before .before .before .before .before .before .before .args .out .now) (c .before .before .before .before .before .before .before .before .before .before .before .before .before .before .before .before .before .before .before .pre) (c .before .before .before .before .before .before .before .before .before .before .before .before .before .text-of .result) (c .before .before .before .before .before .before .before .before .before .before .before .before .before .text-of .ensures) (c .before .before .before .before .before .before .before .before .before .before .before .copy-part .last .0) (c .before .before .before .before .before .before .before .before .before .before .before .copy-part .result) (c .before .before .before .before .before .before .before .before .before .before .before .copy-part .ensures .1) (c .before .before .before .before .before .before .before .before .before .before .before .copy-part .ensures .0) (c .before .before .before .before .before .before .before .before .slot-at .result) (c .before .before .before .before .before .before .before .before .slot-at .ensures) (c .before .before .before .before .before .before .copy-part2 .last .0) (c .before .before .before .before .before .before .copy-part2 .result) (c .before .before .before .before .before .before .copy-part2 .ensures .1) (c .before .before .before .before .before .before .copy-part2 .ensures .0) (c .before .before .before .slot-at2 .result) (c .before .before .before .slot-at2 .ensures) (c .before .loop .out) (c .before .loop .slots) (c .before .loop .pos) (c .before .loop .i) (c .before .loop .inv) (copied-all (c .before .before .before .before .before .before .before .before .before .before .before .before .before .before .before .before .before .before .before .args .raw .now) (c .before .before .before .before .before .before .before .before .before .before .before .before .before .before .before .before .before .before .before .args .d .pairs) (c .before .before .before .before .before .before .before .before .before .before .before .before .before .before .before .before .before .before .before .args .d .count) (simp length-map at (c .before .before .before .before .before .before .before .before .before .before .before .before .before .before .before .before .before .before .before .good .1 .1 .0 .1 .1 .1 .1 .1 .1 .1 .0 .1 .0 .1)) _ _ _ _ _ (c .before .loop .out) (c .before .loop .slots) (c .before .loop .pos) (c .before .loop .i) (c .before .loop .inv) (omega arith))
 
 pub unescape-all-spec : {M : Type 1} → statement M
 unescape-all-spec =
@@ -106,9 +79,8 @@ unescape-all-spec =
     slot-at-requires
     copy-part-requires-2
     slot-at-requires-2
+    at-most-16-requires
     loop-holds
-    same-length
-    returns
     mul-p
     array-copy-out-p
     copy-part-requires-3
@@ -118,5 +90,5 @@ unescape-all-spec =
     add-i
     loop-less
     loop-again
-    same-length-2
-    returns-2)
+    same-length
+    returns)
