@@ -59,7 +59,7 @@ at-getD P [] i a e = absurd (omega arith)
 at-getD P (r ∷ rs) zero a e = a .0
 at-getD P (r ∷ rs) (suc i) a e = at-getD P rs i (a .1) e
 
-at-row : (P : Row → Type 0) (rs : Table) (i : ℕ) → All P rs → num (rowOf rs i) 1 ≡ 1 → P (rowOf rs i)
+pub at-row : (P : Row → Type 0) (rs : Table) (i : ℕ) → All P rs → num (rowOf rs i) 1 ≡ 1 → P (rowOf rs i)
 unfolding rowOf
 at-row P rs zero a e = absurd (omega arith)
 at-row P rs (suc i) a e = at-getD P rs i a e
@@ -74,7 +74,7 @@ unfolding rowOf
 still-row rs us zero e = refl
 still-row rs us (suc i) e = still-getD rs us i e
 
-entry-region : (u : ℕ) (T : List Table) (i d : ℕ) (r : Row) → RowOk (at u T i d) 4 r → OrZero T 3 (num r 0)
+pub entry-region : (u : ℕ) (T : List Table) (i d : ℕ) (r : Row) → RowOk (at u T i d) 4 r → OrZero T 3 (num r 0)
 unfolding Nums Fits columnsOf chosen
 entry-region u T i d [] h = absurd (h .nums)
 entry-region u T i d (v ∷ vs) h = h .nums .0

@@ -36,3 +36,4 @@ pub mod Sizes
 pub mod LookOk
 pub mod RulesKept
 pub mod Lending
+pub mod Enough
