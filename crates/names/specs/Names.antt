@@ -1,9 +1,9 @@
 -- The names that an event brings: found and counted. A name that stands several times is counted where it stands last, so that a count looks ahead only and
 -- keeps no list.
-use Prim.Native.Nat.{ℕ, zero, suc, _+_}
+use Prim.Native.Nat.{ℕ, zero, suc, _+_, _-_}
 use mathlib.Core.Bool.{Bool, true, false}
 use mathlib.Core.List.{List, [], _∷_}
-use lib.ListN.{length, drop}
+use lib.ListN.{length, getD, drop}
 use lib.Dec.{eqb, ltb}
 use Rattle.definition.specs.Text.{same, Piece, pieces, isSeparator, stateWords, generatedName}
 use Rattle.definition.specs.Elements.{tag, key, namesState}
@@ -18,6 +18,18 @@ use Rattle.names.specs.declared.Names.{Names}
 -- A cell that lies in a text.
 abbrev pub Inside : List ℕ → Cell → Type 0
 Inside t c = Fits (length t) (c .at) (c .len)
+
+unfoldable pub lastByte : List ℕ → ℕ
+lastByte w = getD w (length w - 1) 0
+
+-- Whether a cell's text may be a name, by the name's length and last byte.
+unfoldable pub mayBe : List ℕ → ℕ → ℕ → ℕ → ℕ → Bool
+mayBe t zero len long last = true
+mayBe t (suc off) len long last =
+    elim (ltb (length t) (off + len)) [
+      | true ↦ true
+      | false ↦ elim (eqb len long) [ false ↦ false | true ↦ elim (eqb len 0) [ true ↦ true | false ↦ eqb (getD t (off + len - 1) 0) last ] ]
+    ]
 
 -- The words of a value from a place on.
 abbrev pub wordsFrom : List ℕ → ℕ → List Piece

@@ -23,45 +23,72 @@ ghost use Rattle.definition.specs.Limits.{limits01};
 ghost use Rattle.definition.specs.Look.{findName, nameCells};
 ghost use Rattle.plain.specs.Plain.{slotsOf, parsedIn};
 ghost use Rattle.plain.specs.Keyed.{indexOf};
-ghost use Rattle.names.specs.Names.{wordsFrom, occurs, newIf, firstNonzero, counted, stateNames, namesIn};
+ghost use Rattle.names.specs.Names.{lastByte, mayBe, wordsFrom, occurs, newIf, firstNonzero, counted, stateNames, namesIn};
 
-// Whether the text of a cell is w. Of a cell inside the text the lengths are compared first, then the last bytes: names often begin alike.
-pub fn is_at(text: &[u8], at: u32, len: u32, w: &[u8]) -> bool
+// The last byte; 0 where there is none.
+fn last_of(w: &[u8]) -> u8
+    ensures { λ r. ⌜ r ≡ lastByte (now (w .entry)) ⌝ }
+{
+    if w.len() == 0 {
+        return 0;
+    }
+    w[w.len() - 1]
+}
+
+// Whether the text of a cell may be a name of that length and last byte: names often begin alike. A cell that is absent or runs past the text may be any.
+fn may_be(text: &[u8], at: u32, len: u32, long: usize, last: u8) -> bool
+    ensures { λ r. ⌜ r ≡ mayBe (now (text .entry)) at len long last ⌝ }
+{
+    if at == 0 {
+        return true;
+    }
+    let size = index(len);
+    let end = index(at) - 1 + size;
+    if text.len() < end {
+        return true;
+    }
+    if size != long {
+        return false;
+    }
+    if size == 0 {
+        return true;
+    }
+    text[end - 1] == last
+}
+
+// Whether the text of a cell is w, byte by byte.
+fn same_cell(text: &[u8], at: u32, len: u32, w: &[u8]) -> bool
     ensures { λ r. ⌜ r ≡ T.same (textAt (now (text .entry)) (record { at = at; len = len })) (now (w .entry)) ⌝ }
 {
     if at == 0 {
         return w.len() == 0;
     }
-    let off = index(at) - 1;
-    let long = index(len);
-    if text.len() < off + long {
-        return same_at(text, off, long, w);
-    }
-    if long != w.len() {
-        return false;
-    }
-    if long == 0 {
-        return true;
-    }
-    let last = long - 1;
-    if text[off + last] != w[last] {
-        return false;
-    }
-    let end = off + long;
-    same(&text[off..end], w)
+    same_at(text, index(at) - 1, index(len), w)
 }
 
-// The first of `count` rows whose name is w, from 0; `count` if there is none.
+// Likewise, for a w that is compared once.
+pub fn is_at(text: &[u8], at: u32, len: u32, w: &[u8]) -> bool
+    ensures { λ r. ⌜ r ≡ T.same (textAt (now (text .entry)) (record { at = at; len = len })) (now (w .entry)) ⌝ }
+{
+    if may_be(text, at, len, w.len(), last_of(w)) {
+        return same_cell(text, at, len, w);
+    }
+    false
+}
+
+// The first of `count` rows whose name is w, from 0; `count` if there is none. What is asked of w for each row is measured once.
 pub fn find_state(states: &[[u32; 24]], count: usize, text: &[u8], w: &[u8]) -> usize
     requires { ⌜ count ≤ length (now states) ⌝ }
     ensures { λ r. ⌜ r ≡ findName (now (text .entry)) (nameCells (take count (now (states .entry)))) (now (w .entry)) ⌝ }
     ensures { λ r. ⌜ r ≤ count ⌝ }
 {
+    let long = w.len();
+    let last = last_of(w);
     let mut i = 0;
     while i < count {
         let at = states[i][StateColumn::NAME];
         let len = states[i][StateColumn::NAME_LENGTH];
-        if is_at(text, at, len, w) {
+        if may_be(text, at, len, long, last) && same_cell(text, at, len, w) {
             return i;
         }
         i += 1;

@@ -1,7 +1,7 @@
 -- What the code sees is what the definition sees, masked; and that is enough for the plan.
 use Prim.Native.Nat.{ℕ, zero, suc}
 use mathlib.Core.Path.{_≡_, refl, sym, ap, _∙_, subst}
-use mathlib.Core.Bool.{Bool, true, false, _||_}
+use mathlib.Core.Bool.{Bool, true, false, not, _||_, _&&_}
 use lib.ListN.{length}
 use lib.Dec.{eqb}
 use borrow.Author.Tests.{eqb-true}
@@ -16,7 +16,7 @@ use Rattle.plan.specs.Heard.{heard}
 use Rattle.plan.specs.Small.{Small}
 use Rattle.plan.specs.Plans.{planBy, planOf}
 use Rattle.see.specs.Scans.{isChildIn}
-use Rattle.see.specs.Masked.{masked, isElse, isPart, isInvoked, isChildish, numberIf, boolIf, walkedIf}
+use Rattle.see.specs.Masked.{masked, isStart, isBoth, isElse, isPart, isInvoked, isChildish, numberIf, boolIf, walkedIf}
 use Rattle.see.specs.View.{newFirst, defaultFor, familyOf, seenBy}
 use Rattle.see.proofs.Cells.{walk-in}
 use Rattle.see.proofs.Enough.{enough}
@@ -41,6 +41,15 @@ default-is g b p s = go (eqb g 2) (isChildish g) (λ e. ap (λ (z : Bool). z || 
   go true y h = ap (λ (z : Bool). newFirst (boolIf z b) p s) (h refl) ∙ first-is b p s
   go false y h = refl
 
+-- The default is asked for only at kinds that ask for `joined` as well.
+eldest-is : (k g : ℕ) (a b : Bool) (p s : ℕ) (m : Table)
+    → numberIf (isBoth k && a) (firstChildOr (defaultFor g (boolIf (isStart k && isChildish g) b) p s) s m) ≡ numberIf (isBoth k && a) (firstChildOr (elim (eqb g 2) [ true ↦ joined (childMember b p s) s | false ↦ 0 ]) s m)
+unfolding isBoth isStart numberIf
+eldest-is zero g a b p s m = refl
+eldest-is (suc zero) g a b p s m = ap (λ (d : ℕ). numberIf a (firstChildOr d s m)) (default-is g b p s)
+eldest-is (suc (suc zero)) g a b p s m = ap (λ (d : ℕ). numberIf a (firstChildOr d s m)) (default-is g b p s)
+eldest-is (suc (suc (suc k))) g a b p s m = refl
+
 kind-is : (b : Bool) (t : Table) (k : ℕ) → num (rowOf t (numberIf b k)) 1 ≡ numberIf b (num (rowOf t k) 1)
 unfolding numberIf rowOf
 kind-is true t k = refl
@@ -59,9 +68,9 @@ module _ (s : Store) (l : Look) where
   -- What is seen of a store, as the code reads it.
   abbrev pub seenIn : Seen
   seenIn =
-      seenBy g (ownState l) (positionOf s) (tableOf n (table .chart)) (tableOf n (table .states)) (tableOf n (table .transitions)) (tableOf n (table .entries)) (tableOf n (table .invokes)) (tableOf n (table .members)) (tableOf n (table .opened)) (tableOf n (table .openRegions))
+      seenBy (l .kind) g (ownState l) (positionOf s) (tableOf n (table .chart)) (tableOf n (table .states)) (tableOf n (table .transitions)) (tableOf n (table .entries)) (tableOf n (table .invokes)) (tableOf n (table .members)) (tableOf n (table .opened)) (tableOf n (table .openRegions))
 
-  pub seen-all : seenIn ≡ masked g (seen n l)
+  pub seen-all : seenIn ≡ masked (l .kind) g (seen n l)
   unfolding seenBy masked seen familyOf positionOf rowsIn innermost currentState currentTransition parentTag root lastEntry lastInvoke initialOf isChild isChildIn ownFirst
   seen-all = λ j.
       record {
@@ -84,13 +93,13 @@ module _ (s : Store) (l : Look) where
         place = numberIf (eqb g 16) (placeOfNumber (tableOf n (table .transitions)) (currentTransition n));
         initial = transitionId (initialOf n (currentState n));
         donedata = num (rowOf (tableOf n (table .states)) (currentState n)) 8;
-        first = stateId (numberIf (eqb g 2) (firstChildOr 0 (currentState n) (tableOf n (table .members))));
+        first = stateId (numberIf (not (isStart (l .kind)) && eqb g 2) (firstChildOr 0 (currentState n) (tableOf n (table .members))));
         root = stateId (root n);
         begins = transitionId (initialOf n (root n));
-        child = stateId (numberIf (eqb g 1) (firstChildOr 0 (root n) (tableOf n (table .members))));
-        joined = boolIf (isChildish g) (isChild n (currentState n) (ownState l));
+        child = stateId (numberIf (not (isStart (l .kind)) && eqb g 1) (firstChildOr 0 (root n) (tableOf n (table .members))));
+        joined = boolIf (isStart (l .kind) && isChildish g) (isChild n (currentState n) (ownState l));
         own = transitionId (initialOf n (ownState l));
-        eldest = stateId (numberIf (eqb g 1 || eqb g 2) (firstChildOr (default-is g (isChild n (currentState n) (ownState l)) (currentState n) (ownState l) j) (ownState l) (tableOf n (table .members))));
+        eldest = stateId (eldest-is (l .kind) g (eqb g 1 || eqb g 2) (isChild n (currentState n) (ownState l)) (currentState n) (ownState l) (tableOf n (table .members)) j);
       }
 
   -- The plan of what the code sees is the definition's.

@@ -1,12 +1,12 @@
 -- What the reads cite.
 use Prim.Native.Nat.{ℕ, zero, suc}
-use mathlib.Core.Path.{_≡_, refl, sym, ap, _∙_}
+use mathlib.Core.Path.{_≡_, refl, sym, ap, ap₂, _∙_}
 use mathlib.Core.Bool.{Bool, true, false, not, _||_}
 use mathlib.Core.List.{[], _∷_, _++_}
 use lib.ListN.{length, getD, take}
 use lib.Seq.{take-suc, take-length}
-use lib.Dec.{eqb}
-use borrow.Author.Tests.{eq-eqb, ne-eqb}
+use lib.Dec.{eqb, ltb}
+use borrow.Author.Tests.{eq-eqb, ne-eqb, le-ltb}
 use native.Mathlib.Omega.{arith}
 use Rattle.definition.specs.Rows.{Row, Table, table, num, rowOf, lastOf, Numbers, tableOf}
 use Rattle.definition.specs.Actions.{lastWith, lastEntry, Walk, meets, noIf, elseWalk, walkFrom}
@@ -14,6 +14,7 @@ use Rattle.plan.specs.declared.Closing.{Closing}
 use Rattle.plan.specs.declared.Walked.{Walked}
 use Rattle.plan.specs.Seen.{stateId, transitionId, closes, walkedAs, walkIn}
 use Rattle.see.specs.Scans.{walkOver}
+use Rattle.see.specs.Masked.{isStart, isBoth}
 use Rattle.see.specs.View.{walkAt, walkBy, walkAfter, newFirst, defaultFor, insideOf}
 
 no-number : (c : ℕ) → num [] c ≡ 0
@@ -91,6 +92,22 @@ walk-in n x = go (x .met) (x .current .0) where
   go zero c = refl
   go (suc m) zero = refl
   go (suc m) (suc c) = walk-is (length (tableOf n 3)) n (suc c)
+
+-- ---- kinds, as the code asks for them
+
+pub start-told : (k : ℕ) → ltb k 3 ≡ isStart k
+unfolding isStart
+start-told zero = refl
+start-told (suc zero) = refl
+start-told (suc (suc zero)) = refl
+start-told (suc (suc (suc k))) = le-ltb (suc (suc (suc k))) 3 (omega arith)
+
+pub both-told : (k : ℕ) → eqb k 1 || eqb k 2 ≡ isBoth k
+unfolding isBoth
+both-told zero = refl
+both-told (suc zero) = refl
+both-told (suc (suc zero)) = refl
+both-told (suc (suc (suc k))) = ap₂ _||_ (ne-eqb (suc (suc (suc k))) 1 (λ e. omega (arith, e))) (ne-eqb (suc (suc (suc k))) 2 (λ e. omega (arith, e)))
 
 -- ---- a state that begins in itself
 

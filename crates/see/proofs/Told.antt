@@ -17,9 +17,9 @@ use Rattle.see.specs.declared.Family.{Family}
 use Rattle.see.specs.Masked.{isElse, isPart, isInvoked, numberIf, walkedIf}
 use Rattle.see.specs.View.{walkAfter, familyOf, insideOf, seenBy}
 
-pub seen-told : (g o : ℕ) (p : Position) (c s t e i m w r : Table) {element : Open} {count cl last kind inv place don : ℕ} {root : StateId} {ini beg own : TransitionId} {x : Closing} {wk : Walked} {f : Family}
+pub seen-told : (k g o : ℕ) (p : Position) (c s t e i m w r : Table) {element : Open} {count cl last kind inv place don : ℕ} {root : StateId} {ini beg own : TransitionId} {x : Closing} {wk : Walked} {f : Family}
     → element ≡ insideOf w → root ≡ stateId (num (getD c 0 []) 0) → count ≡ length r → cl ≡ closes g → x ≡ closedAt cl r count (p .current .0)
-    → last ≡ numberIf (isPart g) (lastWith 0 (p .current .0) 0 0 e) → f ≡ familyOf g m (element .state .0) (root .0) o → wk ≡ walkedIf (isElse g) (walkAfter x (p .regions) e)
+    → last ≡ numberIf (isPart g) (lastWith 0 (p .current .0) 0 0 e) → f ≡ familyOf k g m (element .state .0) (root .0) o → wk ≡ walkedIf (isElse g) (walkAfter x (p .regions) e)
     → kind ≡ num (rowOf e last) 1 → inv ≡ numberIf (isInvoked g) (lastWith 0 (element .state .0) 0 0 i) → place ≡ numberIf (eqb g 16) (placeOfNumber t (element .transition .0))
     → ini ≡ transitionId (num (rowOf s (element .state .0)) 3) → don ≡ num (rowOf s (element .state .0)) 8 → beg ≡ transitionId (num (rowOf s (root .0)) 3) → own ≡ transitionId (num (rowOf s o) 3)
     → record {
@@ -49,6 +49,6 @@ pub seen-told : (g o : ℕ) (p : Position) (c s t e i m w r : Table) {element : 
       joined = f .joined;
       own = own;
       eldest = f .eldest;
-    } ≡ seenBy g o p c s t e i m w r
+    } ≡ seenBy k g o p c s t e i m w r
 unfolding seenBy insideOf
-seen-told g o p c s t e i m w r e₁ e₂ e₃ e₄ e₅ e₆ e₇ e₈ a₁ a₂ a₃ a₄ a₅ a₆ a₇ = rw (a₇, a₆, a₅, a₄, a₃, a₂, a₁, e₈, e₇, e₆, e₅, e₄, e₃, e₂, e₁)
+seen-told k g o p c s t e i m w r e₁ e₂ e₃ e₄ e₅ e₆ e₇ e₈ a₁ a₂ a₃ a₄ a₅ a₆ a₇ = rw (a₇, a₆, a₅, a₄, a₃, a₂, a₁, e₈, e₇, e₆, e₅, e₄, e₃, e₂, e₁)

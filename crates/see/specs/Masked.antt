@@ -1,11 +1,24 @@
--- What an element's plan reads: the costly reads are made only for the elements that need them, and are 0 for the others.
-use Prim.Native.Nat.{ℕ}
-use mathlib.Core.Bool.{Bool, true, false, _||_}
+-- What an event's plan reads: the costly reads are made only for the elements and kinds that need them, and are 0 for the others.
+use Prim.Native.Nat.{ℕ, zero, suc}
+use mathlib.Core.Bool.{Bool, true, false, not, _||_, _&&_}
 use lib.Dec.{eqb}
 use Rattle.definition.specs.Elements.{tag}
 use Rattle.plan.specs.declared.Walked.{Walked}
 use Rattle.plan.specs.declared.Seen.{Seen}
 use Rattle.plan.specs.Seen.{stateId}
+
+-- Of the kinds open, empty, whole and end, as the plan goes by them: all but the last begin an element, and two of these end it as well.
+unfoldable pub isStart : ℕ → Bool
+isStart zero = true
+isStart (suc zero) = true
+isStart (suc (suc zero)) = true
+isStart (suc (suc (suc k))) = false
+
+unfoldable pub isBoth : ℕ → Bool
+isBoth zero = false
+isBoth (suc zero) = true
+isBoth (suc (suc zero)) = true
+isBoth (suc (suc (suc k))) = false
 
 unfoldable pub isElse : ℕ → Bool
 isElse g = eqb g (tag .else) || eqb g (tag .elseif)
@@ -31,9 +44,9 @@ unfoldable pub walkedIf : Bool → Walked → Walked
 walkedIf true w = w
 walkedIf false w = record { met = 0; at = 0 }
 
-unfoldable pub masked : ℕ → Seen → Seen
-unfolding isElse isPart isInvoked isChildish numberIf boolIf walkedIf
-masked g v =
+unfoldable pub masked : ℕ → ℕ → Seen → Seen
+unfolding isStart isBoth isElse isPart isInvoked isChildish numberIf boolIf walkedIf
+masked k g v =
     record {
       state = v .state;
       transition = v .transition;
@@ -54,11 +67,11 @@ masked g v =
       place = numberIf (eqb g (tag .transition)) (v .place);
       initial = v .initial;
       donedata = v .donedata;
-      first = stateId (numberIf (eqb g (tag .state)) (v .first .0));
+      first = stateId (numberIf (not (isStart k) && eqb g (tag .state)) (v .first .0));
       root = v .root;
       begins = v .begins;
-      child = stateId (numberIf (eqb g (tag .scxml)) (v .child .0));
-      joined = boolIf (isChildish g) (v .joined);
+      child = stateId (numberIf (not (isStart k) && eqb g (tag .scxml)) (v .child .0));
+      joined = boolIf (isStart k && isChildish g) (v .joined);
       own = v .own;
-      eldest = stateId (numberIf (eqb g (tag .scxml) || eqb g (tag .state)) (v .eldest .0));
+      eldest = stateId (numberIf (isBoth k && (eqb g (tag .scxml) || eqb g (tag .state))) (v .eldest .0));
     }

@@ -1,6 +1,6 @@
 -- Parts of what is seen, of tables alone.
 use Prim.Native.Nat.{ℕ, zero, suc, _<_, _^_}
-use mathlib.Core.Bool.{Bool, true, false, _||_}
+use mathlib.Core.Bool.{Bool, true, false, not, _||_, _&&_}
 use mathlib.Core.List.{[]}
 use lib.ListN.{length, getD}
 use lib.Dec.{eqb}
@@ -12,7 +12,7 @@ use Rattle.plan.specs.Seen.{stateId, transitionId, closes, closedAt, firstChild
 use Rattle.plan.specs.declared.Seen.{Seen}
 use Rattle.opens.specs.declared.Open.{Open}
 use Rattle.see.specs.declared.Family.{Family}
-use Rattle.see.specs.Masked.{isElse, isPart, isInvoked, isChildish, numberIf, boolIf, walkedIf}
+use Rattle.see.specs.Masked.{isStart, isBoth, isElse, isPart, isInvoked, isChildish, numberIf, boolIf, walkedIf}
 use Rattle.plan.specs.declared.Closing.{Closing}
 use Rattle.plan.specs.declared.Walked.{Walked}
 use Rattle.see.specs.Scans.{walkOver, isChildIn}
@@ -40,14 +40,16 @@ unfoldable pub defaultFor : ℕ → Bool → ℕ → ℕ → ℕ
 unfolding newFirst
 defaultFor g j p s = elim (eqb g (tag .state)) [ true ↦ newFirst j p s | false ↦ 0 ]
 
-unfoldable pub familyOf : ℕ → Table → ℕ → ℕ → ℕ → Family
-unfolding numberIf boolIf isChildish defaultFor firstChildOr isChildIn
-familyOf g m s r o =
+-- By the event's kind and element: whether s is a child already is asked at the start, the first child at the end.
+unfoldable pub familyOf : ℕ → ℕ → Table → ℕ → ℕ → ℕ → Family
+unfolding numberIf boolIf isStart isBoth isChildish defaultFor firstChildOr isChildIn
+familyOf k g m s r o =
+    let j : Bool = boolIf (isStart k && isChildish g) (isChildIn s o m) in
     record {
-      first = stateId (numberIf (eqb g (tag .state)) (firstChildOr 0 s m));
-      child = stateId (numberIf (eqb g (tag .scxml)) (firstChildOr 0 r m));
-      joined = boolIf (isChildish g) (isChildIn s o m);
-      eldest = stateId (numberIf (eqb g (tag .scxml) || eqb g (tag .state)) (firstChildOr (defaultFor g (boolIf (isChildish g) (isChildIn s o m)) s o) o m));
+      first = stateId (numberIf (not (isStart k) && eqb g (tag .state)) (firstChildOr 0 s m));
+      child = stateId (numberIf (not (isStart k) && eqb g (tag .scxml)) (firstChildOr 0 r m));
+      joined = j;
+      eldest = stateId (numberIf (isBoth k && (eqb g (tag .scxml) || eqb g (tag .state))) (firstChildOr (defaultFor g j s o) o m));
     }
 
 -- The tables whose rows are told by their places have fewer than 2 to the 32.
@@ -60,15 +62,15 @@ unfolding lastOf
 insideOf w = record { state = stateId (num (lastOf [] w) (opened .state)); transition = transitionId (num (lastOf [] w) (opened .transition)); tag = num (lastOf [] w) (opened .tag) }
 
 -- As the code reads it: of the chart, states, transitions, entries, invokes, members, open elements, open regions.
-unfoldable pub seenBy : ℕ → ℕ → Position → Table → Table → Table → Table → Table → Table → Table → Table → Seen
+unfoldable pub seenBy : ℕ → ℕ → ℕ → Position → Table → Table → Table → Table → Table → Table → Table → Table → Seen
 unfolding familyOf walkAfter walkedIf isElse isPart isInvoked rowOf lastOf closes closedAt lastWith placeOfNumber numberIf
-seenBy g o p c s t e i m w r =
+seenBy k g o p c s t e i m w r =
     let now : ℕ = num (lastOf [] w) (opened .state) in
     let transition : ℕ = num (lastOf [] w) (opened .transition) in
     let root : ℕ = num (getD c 0 []) (chart .root) in
     let x : Closing = closedAt (closes g) r (length r) (p .current .0) in
     let last : ℕ = numberIf (isPart g) (lastWith (entry .region) (p .current .0) 0 0 e) in
-    let f : Family = familyOf g m now root o in
+    let f : Family = familyOf k g m now root o in
     record {
       state = stateId now;
       transition = transitionId transition;

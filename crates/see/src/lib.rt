@@ -11,6 +11,7 @@ use definition::cells::OpenColumn;
 use definition::cells::OpenRegionColumn;
 use definition::cells::StateColumn;
 use definition::codes::EntryKind;
+use definition::codes::Kind;
 use definition::codes::ListKind;
 use definition::codes::Tag;
 use opens::Open;
@@ -29,7 +30,7 @@ ghost use Rattle.definition.specs.Rows.{num, rowOf};
 ghost use Rattle.definition.specs.Actions.{lastWith, placeOfNumber};
 ghost use Rattle.plan.specs.Seen.{closes, closedAt, firstChildOr, stateId, transitionId};
 ghost use Rattle.see.specs.Scans.{walkOver, isChildIn};
-ghost use Rattle.see.specs.Masked.{numberIf, boolIf, walkedIf, isElse, isPart, isInvoked, isChildish};
+ghost use Rattle.see.specs.Masked.{numberIf, boolIf, walkedIf, isElse, isPart, isInvoked};
 ghost use Rattle.see.specs.View.{walkAfter, defaultFor, familyOf, insideOf, seenBy, Short};
 
 /// The chart's root; 0 where there is no row.
@@ -263,11 +264,11 @@ fn first_if(asked: bool, members: &[[u32; 8]], d: u32, s: StateId) -> StateId
     StateId(0)
 }
 
-/// For state, parallel and final: whether the state is a child already.
-fn joined_for(tag: u32, members: &[[u32; 8]], p: StateId, s: StateId) -> bool
-    ensures { λ r. ⌜ r ≡ boolIf (isChildish tag) (isChildIn (p .0) (s .0) (now (members .entry))) ⌝ }
+/// Whether s is a child of p, where it is asked for.
+fn child_if(asked: bool, members: &[[u32; 8]], p: StateId, s: StateId) -> bool
+    ensures { λ r. ⌜ r ≡ boolIf asked (isChildIn (p .0) (s .0) (now (members .entry))) ⌝ }
 {
-    if (tag == Tag::STATE) | (tag == Tag::PARALLEL) | (tag == Tag::FINAL) {
+    if asked {
         return is_child(members, p, s);
     }
     false
@@ -286,7 +287,7 @@ fn default_for(tag: u32, joined: bool, p: StateId, s: StateId) -> u32
     0
 }
 
-/// Children: of the current state, of the root, and of the state that begins.
+/// Children: of the current state, of the root, and of the state that begins. Each is a read of all members, so an event asks only for what its plan goes by.
 pub struct Family {
     pub first: StateId,
     pub child: StateId,
@@ -294,16 +295,31 @@ pub struct Family {
     pub eldest: StateId,
 }
 
-fn kin_of(tag: u32, members: &[[u32; 8]], state: StateId, root: StateId, own: StateId) -> Family
-    ensures { λ r. ⌜ r ≡ familyOf tag (now (members .entry)) (state .0) (root .0) (own .0) ⌝ }
+fn kin_of(
+    kind: u32,
+    tag: u32,
+    members: &[[u32; 8]],
+    state: StateId,
+    root: StateId,
+    own: StateId,
+) -> Family
+    ensures { λ r. ⌜ r ≡ familyOf kind tag (now (members .entry)) (state .0) (root .0) (own .0) ⌝ }
 {
-    let joined = joined_for(tag, members, state, own);
+    let starts = kind < Kind::END;
+    let both = (kind == Kind::EMPTY) | (kind == Kind::WHOLE);
+    let childish = (tag == Tag::STATE) | (tag == Tag::PARALLEL) | (tag == Tag::FINAL);
+    let joined = child_if(starts & childish, members, state, own);
     let d = default_for(tag, joined, state, own);
     Family {
-        first: first_if(tag == Tag::STATE, members, 0, state),
-        child: first_if(tag == Tag::SCXML, members, 0, root),
+        first: first_if(!starts & (tag == Tag::STATE), members, 0, state),
+        child: first_if(!starts & (tag == Tag::SCXML), members, 0, root),
         joined: joined,
-        eldest: first_if((tag == Tag::SCXML) | (tag == Tag::STATE), members, d, own),
+        eldest: first_if(
+            both & ((tag == Tag::SCXML) | (tag == Tag::STATE)),
+            members,
+            d,
+            own,
+        ),
     }
 }
 
@@ -314,8 +330,9 @@ fn initial_of(states: &[[u32; 24]], s: StateId) -> TransitionId
     TransitionId(state_cell(states, s, StateColumn::INITIAL))
 }
 
-/// All that is seen for an element that names the state own.
+/// All that is seen for an event of a kind, and an element that names the state own.
 pub fn see(
+    kind: u32,
     tag: u32,
     own: StateId,
     position: Position,
@@ -329,7 +346,7 @@ pub fn see(
     open_regions: &[[u32; 8]],
 ) -> Seen
     requires { ⌜ Short (now transitions) (now entries) (now invokes) (now open_regions) ⌝ }
-    ensures { λ r. ⌜ r ≡ seenBy tag (own .0) position (now (chart .entry)) (now (states .entry)) (now (transitions .entry)) (now (entries .entry)) (now (invokes .entry)) (now (members .entry)) (now (opened .entry)) (now (open_regions .entry)) ⌝ }
+    ensures { λ r. ⌜ r ≡ seenBy kind tag (own .0) position (now (chart .entry)) (now (states .entry)) (now (transitions .entry)) (now (entries .entry)) (now (invokes .entry)) (now (members .entry)) (now (opened .entry)) (now (open_regions .entry)) ⌝ }
 {
     let element = inside(opened);
     let state = element.state;
@@ -339,7 +356,7 @@ pub fn see(
     let open = open_regions.len() as u32;
     let closed = close_region(closes(tag), open_regions, open, current);
     let entry = entry_for(tag, entries, current);
-    let kin = kin_of(tag, members, state, root, own);
+    let kin = kin_of(kind, tag, members, state, root, own);
     let first = kin.first;
     let child = kin.child;
     let eldest = kin.eldest;

@@ -121,10 +121,10 @@ module _ (p : Position) (a b c d f h i j k o y r : Table) (tx : List ℕ) (v : P
       → m ≡ lookedIn (take 1 a) (take (p .states) b) (take (p .datums) i) (take (p .opened) o) (take (p .opened) y) (take (p .used) tx) p v
   looked-as m a′ b′ i′ o′ y′ t′ ea eb ei eo ey et e = e ∙ (λ z. lookedIn (ea z) (eb z) (ei z) (eo z) (ey z) (et z) p v)
 
-  pub seen-as : (g w : ℕ) (u : Seen) (a′ b′ c′ f′ h′ k′ o′ r′ : Table) → a′ ≡ take 1 a → b′ ≡ take (p .states) b → c′ ≡ take (p .transitions) c → f′ ≡ take (p .entries) f → h′ ≡ take (p .invokes) h
-      → k′ ≡ take (p .members) k → o′ ≡ take (p .opened) o → r′ ≡ take (p .«open_regions») r → u ≡ seenBy g w p a′ b′ c′ f′ h′ k′ o′ r′
-      → u ≡ seenBy g w p (take 1 a) (take (p .states) b) (take (p .transitions) c) (take (p .entries) f) (take (p .invokes) h) (take (p .members) k) (take (p .opened) o) (take (p .«open_regions») r)
-  seen-as g w u a′ b′ c′ f′ h′ k′ o′ r′ ea eb ec ef eh ek eo er e = e ∙ (λ z. seenBy g w p (ea z) (eb z) (ec z) (ef z) (eh z) (ek z) (eo z) (er z))
+  pub seen-as : (q g w : ℕ) (u : Seen) (a′ b′ c′ f′ h′ k′ o′ r′ : Table) → a′ ≡ take 1 a → b′ ≡ take (p .states) b → c′ ≡ take (p .transitions) c → f′ ≡ take (p .entries) f → h′ ≡ take (p .invokes) h
+      → k′ ≡ take (p .members) k → o′ ≡ take (p .opened) o → r′ ≡ take (p .«open_regions») r → u ≡ seenBy q g w p a′ b′ c′ f′ h′ k′ o′ r′
+      → u ≡ seenBy q g w p (take 1 a) (take (p .states) b) (take (p .transitions) c) (take (p .entries) f) (take (p .invokes) h) (take (p .members) k) (take (p .opened) o) (take (p .«open_regions») r)
+  seen-as q g w u a′ b′ c′ f′ h′ k′ o′ r′ ea eb ec ef eh ek eo er e = e ∙ (λ z. seenBy q g w p (ea z) (eb z) (ec z) (ef z) (eh z) (ek z) (eo z) (er z))
 
   module _ (A : InForm x p v) where
     abbrev Z : Sized p a b c d f h i j k o y r tx
@@ -184,10 +184,10 @@ module _ (p : Position) (a b c d f h i j k o y r : Table) (tx : List ℕ) (v : P
       pub charge-small : m .charge < 65536
       charge-small = omega (arith, tells .charge, look-charge s (A .event) (Z .rules) (A .form))
 
-      module _ (u : Seen) (eu : u ≡ seenBy (m .heard .tag) (m .heard .own) p (take 1 a) (take (p .states) b) (take (p .transitions) c) (take (p .entries) f) (take (p .invokes) h) (take (p .members) k) (take (p .opened) o) (take (p .«open_regions») r)) where
+      module _ (u : Seen) (eu : u ≡ seenBy (m .heard .kind) (m .heard .tag) (m .heard .own) p (take 1 a) (take (p .states) b) (take (p .transitions) c) (take (p .entries) f) (take (p .invokes) h) (take (p .members) k) (take (p .opened) o) (take (p .«open_regions») r)) where
         sees : u ≡ seenIn s l
         unfolding storeOf taken counts heard
-        sees = eu ∙ (λ z. seenBy (tells .heard z .tag) (tells .heard z .own) (sym at-position z) (take 1 a) (take (p .states) b) (take (p .transitions) c) (take (p .entries) f) (take (p .invokes) h) (take (p .members) k) (take (p .opened) o) (take (p .«open_regions») r))
+        sees = eu ∙ (λ z. seenBy (tells .heard z .kind) (tells .heard z .tag) (tells .heard z .own) (sym at-position z) (take 1 a) (take (p .states) b) (take (p .transitions) c) (take (p .entries) f) (take (p .invokes) h) (take (p .members) k) (take (p .opened) o) (take (p .«open_regions») r))
 
         -- WHAT `decide` REQUIRES.
         pub small-enough : Small u (m .heard)
@@ -245,7 +245,7 @@ module _ (p : Position) (a b c d f h i j k o y r : Table) (tx : List ℕ) (v : P
               }
 
   pub settles : (m : Looked) (em : m ≡ lookedIn (take 1 a) (take (p .states) b) (take (p .datums) i) (take (p .opened) o) (take (p .opened) y) (take (p .used) tx) p v)
-      (u : Seen) (eu : u ≡ seenBy (m .heard .tag) (m .heard .own) p (take 1 a) (take (p .states) b) (take (p .transitions) c) (take (p .entries) f) (take (p .invokes) h) (take (p .members) k) (take (p .opened) o) (take (p .«open_regions») r))
+      (u : Seen) (eu : u ≡ seenBy (m .heard .kind) (m .heard .tag) (m .heard .own) p (take 1 a) (take (p .states) b) (take (p .transitions) c) (take (p .entries) f) (take (p .invokes) h) (take (p .members) k) (take (p .opened) o) (take (p .«open_regions») r))
       (g : Decision) (eg : told g ≡ planBy (m .heard .kind) u (m .heard)) (t : ℕ) → t ≡ firstOf (m .no) (g .refusal) (within limits01 p (m .refs) (m .new) (m .made) (m .charge) (g .plan))
       → Settles x p v (record { number = t; plan = g .plan; made = m .made; charge = m .charge })
   unfolding ready

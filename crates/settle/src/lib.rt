@@ -110,6 +110,7 @@ pub fn settle(
     );
     let h = l.heard;
     let v = see(
+        h.kind,
         h.tag,
         StateId(h.own),
         p,

@@ -66,7 +66,7 @@ initial-of-requires-3 c κs = search needs
 
 -- src/lib.rt:346:1
 returns : tie.Need-returns
-returns c = seen-told (c .before .before .before .before .before .before .before .before .before .before .before .before .before .before .before .before .before .before .before .before .args .tag) (c .before .before .before .before .before .before .before .before .before .before .before .before .before .before .before .before .before .before .before .before .args .own .0) (c .before .before .before .before .before .before .before .before .before .before .before .before .before .before .before .before .before .before .before .before .args .position) (c .before .before .before .before .before .before .before .before .before .before .before .before .before .before .before .before .before .before .before .before .args .chart .now) (c .before .before .before .before .before .before .before .before .before .before .before .before .before .before .before .before .before .before .before .before .args .states .now) (c .before .before .before .before .before .before .before .before .before .before .before .before .before .before .before .before .before .before .before .before .args .transitions .now) (c .before .before .before .before .before .before .before .before .before .before .before .before .before .before .before .before .before .before .before .before .args .entries .now) (c .before .before .before .before .before .before .before .before .before .before .before .before .before .before .before .before .before .before .before .before .args .invokes .now) (c .before .before .before .before .before .before .before .before .before .before .before .before .before .before .before .before .before .before .before .before .args .members .now) (c .before .before .before .before .before .before .before .before .before .before .before .before .before .before .before .before .before .before .before .before .args .opened .now) (c .before .before .before .before .before .before .before .before .before .before .before .before .before .before .before .before .before .before .before .before .args .open-regions .now) (c .before .before .before .before .before .before .before .before .before .before .before .before .before .before .before .before .before .before .before .inside .ensures) (c .before .before .before .before .before .before .before .before .before .before .before .before .before .before .before .before .root-of .ensures) refl (c .before .before .before .before .before .before .before .before .before .before .before .before .before .before .closes .ensures) (c .before .before .before .before .before .before .before .before .before .before .before .before .before .close-region .ensures) (c .before .before .before .before .before .before .before .before .before .before .before .before .entry-for .ensures) (c .before .before .before .before .before .before .before .before .before .before .before .kin-of .ensures) (c .before .before .before .before .before .before .before .walk-for .ensures) (c .before .before .before .before .before .before .entry-kind .ensures) (c .before .before .before .before .before .invoke-for .ensures) (c .before .before .before .before .place-for .ensures) (c .before .before .before .initial-of .ensures) (c .before .before .state-cell .ensures) (c .before .initial-of2 .ensures) (c .initial-of3 .ensures)
+returns c = seen-told (c .before .before .before .before .before .before .before .before .before .before .before .before .before .before .before .before .before .before .before .before .args .kind) (c .before .before .before .before .before .before .before .before .before .before .before .before .before .before .before .before .before .before .before .before .args .tag) (c .before .before .before .before .before .before .before .before .before .before .before .before .before .before .before .before .before .before .before .before .args .own .0) (c .before .before .before .before .before .before .before .before .before .before .before .before .before .before .before .before .before .before .before .before .args .position) (c .before .before .before .before .before .before .before .before .before .before .before .before .before .before .before .before .before .before .before .before .args .chart .now) (c .before .before .before .before .before .before .before .before .before .before .before .before .before .before .before .before .before .before .before .before .args .states .now) (c .before .before .before .before .before .before .before .before .before .before .before .before .before .before .before .before .before .before .before .before .args .transitions .now) (c .before .before .before .before .before .before .before .before .before .before .before .before .before .before .before .before .before .before .before .before .args .entries .now) (c .before .before .before .before .before .before .before .before .before .before .before .before .before .before .before .before .before .before .before .before .args .invokes .now) (c .before .before .before .before .before .before .before .before .before .before .before .before .before .before .before .before .before .before .before .before .args .members .now) (c .before .before .before .before .before .before .before .before .before .before .before .before .before .before .before .before .before .before .before .before .args .opened .now) (c .before .before .before .before .before .before .before .before .before .before .before .before .before .before .before .before .before .before .before .before .args .open-regions .now) (c .before .before .before .before .before .before .before .before .before .before .before .before .before .before .before .before .before .before .before .inside .ensures) (c .before .before .before .before .before .before .before .before .before .before .before .before .before .before .before .before .root-of .ensures) refl (c .before .before .before .before .before .before .before .before .before .before .before .before .before .before .closes .ensures) (c .before .before .before .before .before .before .before .before .before .before .before .before .before .close-region .ensures) (c .before .before .before .before .before .before .before .before .before .before .before .before .entry-for .ensures) (c .before .before .before .before .before .before .before .before .before .before .before .kin-of .ensures) (c .before .before .before .before .before .before .before .walk-for .ensures) (c .before .before .before .before .before .before .entry-kind .ensures) (c .before .before .before .before .before .invoke-for .ensures) (c .before .before .before .before .place-for .ensures) (c .before .before .before .initial-of .ensures) (c .before .before .state-cell .ensures) (c .before .initial-of2 .ensures) (c .initial-of3 .ensures)
 
 pub see-spec : {M : Type 1} → statement M
 see-spec =
