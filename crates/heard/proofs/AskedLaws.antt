@@ -12,7 +12,7 @@ use Rattle.definition.specs.Text.{Span, trim}
 use Rattle.definition.specs.Elements.{leftOutKeys, Required, requirements, requiredIn, Apart, exclusions}
 use Rattle.definition.specs.Look.{Load, hasLoad}
 use Rattle.definition.specs.Reader.{Question, firstNo}
-use Rattle.definition.proofs.Base.{and-left, and-right}
+use Rattle.definition.proofs.Base.{and-left, and-right, true-is-false}
 use Rattle.words.proofs.Laws.{by}
 use Rattle.words.specs.declared.Part.{Part}
 use Rattle.words.specs.Next.{asSpan}
@@ -22,13 +22,11 @@ use Rattle.plain.specs.Plain.{slotBytes, parsedIn, loadsIn, textIf}
 use Rattle.plain.specs.Keyed.{valueIn}
 use Rattle.plain.specs.Keyed.{indexOf, isMarked}
 use Rattle.plain.proofs.ValueLaws.{marked-has}
+use Rattle.heard.proofs.CodeLaws.{and-no, flip}
 use Rattle.heard.specs.declared.Asked.{Asked}
 use Rattle.definition.specs.Nesting.{parentAllowed}
 use Rattle.plan.specs.declared.Heard.{Heard}
 use Rattle.heard.specs.Asked.{questionsBy, oneBy, allBy, pairsBy, leftOutBy, completeBy, apartBy, trimmedIn, textApartIn, askedIn, pick}
-
-flip : (a b : ℕ) → (a ≡ b → ⊥) → eqb b a ≡ false
-flip a b h = ne-eqb b a (λ e. h (sym e))
 
 or-no : (b : Bool) → (b || false) ≡ b
 or-no true = refl
@@ -37,6 +35,9 @@ or-no false = refl
 and-yes : (b : Bool) → (b && true) ≡ b
 and-yes true = refl
 and-yes false = refl
+
+no-three : (a b c : Bool) → (not (a && false) && not (b && false) && not (c && false)) ≡ true
+no-three a b c = rw (and-no a, and-no b, and-no c)
 
 -- ---- question 6
 
@@ -92,12 +93,32 @@ module _ (g : ℕ) where
 
 -- ---- question 11
 
+-- Only send, cancel and param have keys that exclude each other.
+pub apart-none : (f : ℕ → Bool) (g : ℕ) → not (eqb 19 g || eqb 21 g || eqb 14 g) ≡ true → true ≡ apartBy f g
+unfolding apartBy pairsBy exclusions
+apart-none f g h = go (eqb 19 g) (eqb 21 g) (eqb 14 g) h
+  where
+    go : (a b c : Bool) → not (a || b || c) ≡ true
+        → true ≡ (not (a && f 14 && f 15) && (not (a && f 17 && f 18) && (not (a && f 7 && f 8) && (not (a && f 1 && f 11) && (not (b && f 23 && f 24) && (not (c && f 19 && f 27) && true))))))
+    go false false false e = refl
+    go false false true e = true-is-false (sym e)
+    go false true c e = true-is-false (sym e)
+    go true b c e = true-is-false (sym e)
+
 module _ (src : List ℕ) (p : Plain) where
   pub text-none : (p .kind ≡ 2 → ⊥) → false ≡ leb 1 (trimmedIn (parsedIn src p .text))
   unfolding parsedIn textIf trimmedIn
   text-none h =
       let z : parsedIn src p .text ≡ none = rw (ne-eqb (p .kind) 2 h, textIf) in
       sym (ap (λ (o : Option (List ℕ)). leb 1 (trimmedIn o)) z)
+
+  pub text-apart-none : (p .kind ≡ 2 → ⊥) → true ≡ textApartIn (parsedIn src p)
+  unfolding textApartIn parsedIn
+  text-apart-none h =
+      let x : Bool = hasLoad 19 (parsedIn src p .values) in
+      let y : Bool = leb 1 (length (valueIn 19 (parsedIn src p .values))) in
+      sym (no-three (eqb (p .tag) 9 && x) (eqb (p .tag) 15 && x) (eqb (p .tag) 23 && y))
+      ∙ ap₂ (λ (t w : Bool). not (eqb (p .tag) 9 && x && t) && not (eqb (p .tag) 15 && x && w) && not (eqb (p .tag) 23 && y && w)) (text-none h) (sym (ne-eqb (p .kind) 2 h))
 
   pub text-some : p .kind ≡ 2 → (v : List ℕ) → v ≡ slotBytes src (p .text) → (t : Part) → asSpan t ≡ trim v → leb 1 (t .len) ≡ leb 1 (trimmedIn (parsedIn src p .text))
   unfolding parsedIn textIf trimmedIn asSpan
@@ -193,13 +214,15 @@ module _ (src : List ℕ) (p : Plain) (ix : List ℕ) (e : ix ≡ indexOf (take 
   there : (k : ℕ) → k < 31 → isMarked ix k ≡ hasLoad k vs
   there k low = marked-has src k low (take (p .count) (p .slots)) ix e (isMarked ix k) refl
 
-  pub text-is : (d₀ x : Bool) (v : List ℕ) → x ≡ isMarked ix 19 → v ≡ valueIn 19 vs → d₀ ≡ not (eqb (p .tag) 9 && x && leb 1 (trimmedIn (parsedIn src p .text)))
-      → (d₀ && not (eqb (p .tag) 15 && x && eqb (p .kind) 2) && not (eqb (p .tag) 23 && leb 1 (length v) && eqb (p .kind) 2)) ≡ textApartIn (parsedIn src p)
+  pub text-is : p .kind ≡ 2 → (d₀ x : Bool) (v : List ℕ) → x ≡ isMarked ix 19 → v ≡ valueIn 19 vs → d₀ ≡ not (eqb (p .tag) 9 && x && leb 1 (trimmedIn (parsedIn src p .text)))
+      → (d₀ && not (eqb (p .tag) 15 && x) && not (eqb (p .tag) 23 && leb 1 (length v))) ≡ textApartIn (parsedIn src p)
   unfolding textApartIn parsedIn
-  text-is d₀ x v ex ev ed =
+  text-is whole d₀ x v ex ev ed =
       let q : x ≡ hasLoad 19 vs = ex ∙ there 19 (omega arith) in
       let t : Bool = leb 1 (trimmedIn (textIf (p .kind) (part src (p .text .at) (p .text .len)))) in
-      ap (λ (d : Bool). d && not (eqb (p .tag) 15 && x && eqb (p .kind) 2) && not (eqb (p .tag) 23 && leb 1 (length v) && eqb (p .kind) 2)) ed
+      let y : (b : Bool) → b ≡ (b && eqb (p .kind) 2) = λ b. sym (ap (λ (z : Bool). b && z) (eq-eqb (p .kind) 2 whole) ∙ and-yes b) in
+      ap (λ (d : Bool). d && not (eqb (p .tag) 15 && x) && not (eqb (p .tag) 23 && leb 1 (length v))) ed
+      ∙ ap₂ (λ (b c : Bool). not (eqb (p .tag) 9 && x && t) && not b && not c) (y (eqb (p .tag) 15 && x)) (y (eqb (p .tag) 23 && leb 1 (length v)))
       ∙ ap₂ (λ (b : Bool) (w : List ℕ). not (eqb (p .tag) 9 && b && t) && not (eqb (p .tag) 15 && b && eqb (p .kind) 2) && not (eqb (p .tag) 23 && leb 1 (length w) && eqb (p .kind) 2)) q ev
 
   pub asked-is : (l c k t : Bool) → l ≡ leftOutBy (isMarked ix) (p .tag) → c ≡ completeBy (isMarked ix) (p .tag) → k ≡ apartBy (isMarked ix) (p .tag) → t ≡ textApartIn (parsedIn src p)

@@ -2,32 +2,33 @@
 use Prim.Native.Nat.{ℕ, _+_, _-_, _≤_, _<_}
 use mathlib.Core.Path.{_≡_, refl, sym, ap, ap₂, _∙_, subst}
 use mathlib.Core.Bool.{Bool, true, false, _&&_, _||_}
+use mathlib.Core.Option.{none}
 use mathlib.Core.List.{List, [], _∷_}
 use native.Mathlib.Omega.{arith}
 use lib.Dec.{eqb}
 use lib.ListN.{length, take, drop, drop-of-length-le, length-map}
-use borrow.Author.Tests.{ne-eqb}
-use Rattle.definition.specs.Text.{Piece, pieces, emit, isSpace, isSeparator, placeIn, lowered, eventWords, stateWords, wordsBy, strippedPiece, wildcard, isTrue}
+use borrow.Author.Tests.{ne-eqb, eqb-true, eqb-false}
+use Rattle.definition.specs.Text.{Piece, pieces, emit, isSpace, isSeparator, placeIn, lowered, eventWords, stateWords, wordsBy, strippedPiece, wildcard, isTrue, same, str}
 use Rattle.definition.specs.Elements.{wordsTaken, codings}
 use Rattle.definition.specs.Actions.{typeOf}
 use Rattle.definition.specs.Look.{Load, hasLoad, oneIf, codeOf, wordSpans, isEvents, isNamelist, spanOf}
 use Rattle.words.specs.declared.Word.{Word}
 use Rattle.words.specs.Next.{nextWord, pieceAt}
-use Rattle.words.proofs.Laws.{next-order, next-inside, next-moves, next-none, next-some}
+use Rattle.words.proofs.Laws.{by, next-order, next-inside, next-moves, next-none, next-some}
 use Rattle.plain.specs.declared.Plain.{Plain}
 use Rattle.plain.specs.Plain.{slotsOf, loadsIn, parsedIn}
 use Rattle.plain.specs.Keyed.{indexOf, isMarked, valueIn}
 use Rattle.plain.proofs.ValueLaws.{marked-has}
 use Rattle.plan.specs.declared.Heard.{Heard}
-use Rattle.heard.specs.Heard.{orElse, codeIn, wordsIn, heardIn}
+use Rattle.heard.specs.Heard.{orElse, codeIn, wordsIn, heardIn, bareOf}
 
 -- ---- codes
 
-and-no : (b : Bool) → (b && false) ≡ false
+pub and-no : (b : Bool) → (b && false) ≡ false
 and-no true = refl
 and-no false = refl
 
-flip : (a b : ℕ) → (a ≡ b → ⊥) → eqb b a ≡ false
+pub flip : (a b : ℕ) → (a ≡ b → ⊥) → eqb b a ≡ false
 flip a b h = ne-eqb b a (λ e. h (sym e))
 
 module _ (v : List ℕ) where
@@ -80,6 +81,24 @@ module _ (v : List ℕ) where
   pub names-other : (g : ℕ) → (eqb g 19 || eqb g 8) ≡ false → 0 ≡ length (wordSpans g 12 v)
   unfolding wordSpans isEvents isNamelist
   names-other g e = rw (and-no (eqb g 16), wordSpans, e, wordSpans)
+
+-- ---- no words in no bytes
+
+pub events-empty : (g : ℕ) → 0 ≡ length (wordSpans g 14 [])
+unfolding eventWords wordsBy pieces emit
+events-empty g = by (eqb g 16) (λ q. events-here [] g (eqb-true g 16 q) 0 refl) (λ q. events-other [] g (eqb-false g 16 q))
+
+pub names-empty : (g : ℕ) → 0 ≡ length (wordSpans g 12 [])
+unfolding stateWords wordsBy pieces emit
+names-empty g = by (eqb g 19 || eqb g 8) (λ q. names-here [] g q 0 refl) (λ q. names-other [] g q)
+
+pub wildcard-empty : (g : ℕ) → 0 ≡ codeOf g 14 []
+unfolding eventWords wordsBy pieces emit wildcard oneIf
+wildcard-empty g = by (eqb g 16) (λ q. wildcard-here [] g (eqb-true g 16 q) false 0 refl refl) (λ q. wildcard-other [] g (eqb-false g 16 q))
+
+pub forward-empty : (g : ℕ) → 0 ≡ codeOf g 13 []
+unfolding isTrue oneIf lowered same str
+forward-empty g = forward-is [] g false 0 refl refl
 
 -- ---- counting words
 
@@ -168,3 +187,30 @@ module _ (src : List ℕ) (p : Plain) (ix : List ℕ) (e : ix ≡ indexOf (slots
 pub words-in : (g k : ℕ) (is : List Load) (v : List ℕ) → v ≡ valueIn k is → (r : ℕ) → r ≡ length (wordSpans g k v) → r ≡ wordsIn g k is
 unfolding wordsIn
 words-in g k is v e r h = h ∙ ap (λ (x : List ℕ). length (wordSpans g k x)) e
+
+-- ---- an event without values
+
+pub bare-is : (k g own found : ℕ) → record { kind = k; tag = g; own = own; initial = false; expr = false; binds = false; binding = 0; mode = 0; history = 1; wildcard = 0; forward = 0; events = 0; names = 0; found = found } ≡ heardIn own found (bareOf k g)
+unfolding heardIn bareOf hasLoad valueIn codeIn orElse wordsIn typeOf
+bare-is k g own found =
+    λ i.
+    record {
+      kind = k;
+      tag = g;
+      own = own;
+      initial = false;
+      expr = false;
+      binds = false;
+      binding = 0;
+      mode = 0;
+      history = 1;
+      wildcard = wildcard-empty g i;
+      forward = forward-empty g i;
+      events = events-empty g i;
+      names = names-empty g i;
+      found = found;
+    }
+
+pub heard-bare : (src : List ℕ) (p : Plain) → p .count ≡ 0 → (own found : ℕ) (h : Heard) → h ≡ heardIn own found (bareOf (p .kind) (p .tag)) → h ≡ heardIn own found (parsedIn src p)
+unfolding heardIn bareOf parsedIn loadsIn
+heard-bare src p e own found h q = q ∙ sym (ap (λ (n : ℕ). heardIn own found (record { kind = p .kind; tag = p .tag; name = []; values = loadsIn src (take n (p .slots)); text = none })) e)

@@ -1,18 +1,17 @@
 -- THE LAW OF FIELDS: what the definition's look has of a key is what the event's values say.
 use Prim.Native.Nat.{ℕ, _+_}
 use mathlib.Core.Path.{_≡_, refl, sym, ap, ap₂, _∙_}
-use mathlib.Core.Bool.{Bool, true, false, _||_}
+use mathlib.Core.Bool.{Bool, true, false}
 use mathlib.Core.Option.{Option, none, some}
 use mathlib.Core.List.{List, [], _∷_}
 use native.Mathlib.Omega.{arith}
 use lib.Dec.{eqb}
 use lib.ListN.{length, length-map}
-use borrow.Author.Tests.{eqb-true, eqb-false}
-use Rattle.definition.specs.Text.{eventWords, stateWords, wordsBy, pieces, emit, wildcard, isTrue, lowered, same, str}
+use borrow.Author.Tests.{eqb-true}
 use Rattle.definition.specs.Elements.{Role, names, plain, roleOf, isMasked, isName, isNames, among, tagOf}
 use Rattle.definition.specs.Event.{Event}
 use Rattle.definition.specs.Rows.{Store}
-use Rattle.definition.specs.Look.{Load, valueLoads, loadsOf, hasLoad, Field, look, fieldsFrom, fieldBy, codeByRole, wordsByRole, codeOf, wordSpans, oneIf, shift}
+use Rattle.definition.specs.Look.{Load, valueLoads, loadsOf, hasLoad, Field, look, fieldsFrom, fieldBy, codeByRole, wordsByRole, codeOf, wordSpans, shift}
 use Rattle.definition.specs.Change.{fieldIn, present, has, fieldLength, lengthOf, fieldCode, codeFor, fieldWords, wordsOf}
 use Rattle.definition.specs.States.{ownState}
 use Rattle.definition.specs.Actions.{typeOf}
@@ -23,7 +22,7 @@ use Rattle.plain.proofs.ValueLaws.{value-here, value-past, offset-here, offset-
 use Rattle.plain.proofs.LoadLaw.{Own, other, own-has, own-value}
 use Rattle.plain.specs.Plain.{parsedOf}
 use Rattle.plan.specs.Heard.{heard}
-use Rattle.heard.proofs.CodeLaws.{events-here, events-other, names-here, names-other, wildcard-here, wildcard-other, forward-is}
+use Rattle.heard.proofs.CodeLaws.{events-empty, names-empty, wildcard-empty, forward-empty}
 use Rattle.heard.specs.Heard.{orElse, codeIn, wordsIn, heardIn}
 
 -- ---- a field by its key
@@ -72,30 +71,12 @@ module _ (g k : ℕ) where
   unfolding fieldOf
   field-is o is = by (hasLoad k is) (λ q. field-has o is q ∙ sym (rw (q, fieldOf))) (λ q. field-none o is q ∙ sym (rw (q, fieldOf)))
 
--- ---- no words in no bytes
-
-events-empty : (g : ℕ) → 0 ≡ length (wordSpans g 14 [])
-unfolding eventWords wordsBy pieces emit
-events-empty g = by (eqb g 16) (λ q. events-here [] g (eqb-true g 16 q) 0 refl) (λ q. events-other [] g (eqb-false g 16 q))
-
-names-empty : (g : ℕ) → 0 ≡ length (wordSpans g 12 [])
-unfolding stateWords wordsBy pieces emit
-names-empty g = by (eqb g 19 || eqb g 8) (λ q. names-here [] g q 0 refl) (λ q. names-other [] g q)
-
-wildcard-empty : (g : ℕ) → 0 ≡ codeOf g 14 []
-unfolding eventWords wordsBy pieces emit wildcard oneIf
-wildcard-empty g = by (eqb g 16) (λ q. wildcard-here [] g (eqb-true g 16 q) false 0 refl refl) (λ q. wildcard-other [] g (eqb-false g 16 q))
-
-forward-empty : (g : ℕ) → 0 ≡ codeOf g 13 []
-unfolding isTrue oneIf lowered same str
-forward-empty g = forward-is [] g false 0 refl refl
+-- ---- the look
 
 -- The code of no bytes may stand for that of an absent key.
 code-empty : (g k : ℕ) (is : List Load) → 0 ≡ codeOf g k [] → codeIn 0 g k is ≡ codeOf g k (valueIn k is)
 unfolding codeIn orElse
 code-empty g k is h = by (hasLoad k is) (λ q. rw q) (λ q. rw q (h ∙ sym (ap (codeOf g k) (value-none k is q))))
-
--- ---- the look
 
 module _ (s : Store) (e : Event) where
   abbrev tagged : ℕ

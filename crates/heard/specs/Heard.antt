@@ -1,7 +1,8 @@
 -- What a plan needs of an event, by its values.
 use Prim.Native.Nat.{ℕ}
 use mathlib.Core.Bool.{Bool, true, false}
-use mathlib.Core.List.{List}
+use mathlib.Core.Option.{none}
+use mathlib.Core.List.{List, []}
 use lib.ListN.{length}
 use Rattle.definition.specs.Elements.{key}
 use Rattle.definition.specs.Look.{Load, hasLoad, codeOf, wordSpans}
@@ -42,3 +43,7 @@ heardIn own found v =
       names = wordsIn (v .tag) (key .namelist) (v .values);
       found = found;
     }
+
+-- An event without values; its name and text are not heard.
+unfoldable pub bareOf : ℕ → ℕ → Parsed
+bareOf k g = record { kind = k; tag = g; name = []; values = []; text = none }

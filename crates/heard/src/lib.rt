@@ -33,7 +33,7 @@ ghost use Rattle.definition.specs.Look.{codeOf, wordSpans, findDatum, isInnermo
 ghost use Rattle.definition.specs.Actions.{typeOf};
 ghost use Rattle.plain.specs.Plain.{slotsOf, parsedIn};
 ghost use Rattle.plain.specs.Keyed.{indexOf, isMarked};
-ghost use Rattle.heard.specs.Heard.{orElse, heardIn};
+ghost use Rattle.heard.specs.Heard.{orElse, heardIn, bareOf};
 ghost use mathlib.Core.Bool.{not, _&&_};
 ghost use lib.Dec.{eqb, leb};
 ghost use Rattle.definition.specs.Reader.{firstNo};
@@ -156,12 +156,36 @@ fn names_of(tag: u32, v: &[u8]) -> u32
     0
 }
 
+// Of an event without attributes, as every end is: no key is there.
+fn bare(kind: u32, tag: u32, own: u32, found: u32) -> Heard
+    ensures { λ r. ⌜ r ≡ heardIn own found (bareOf kind tag) ⌝ }
+{
+    Heard {
+        kind: kind,
+        tag: tag,
+        own: own,
+        initial: false,
+        expr: false,
+        binds: false,
+        binding: 0,
+        mode: 0,
+        history: 1,
+        wildcard: 0,
+        forward: 0,
+        events: 0,
+        names: 0,
+        found: found,
+    }
+}
+
 pub fn heard(src: &[u8], p: Plain, ix: [u8; Plain::KEYS], own: u32, found: u32) -> Heard
     requires { ⌜ ix ≡ indexOf (slotsOf p) ⌝ }
     ensures { λ r. ⌜ r ≡ heardIn own found (parsedIn (now (src .entry)) p) ⌝ }
 {
-    let kind = p.kind;
     let tag = p.tag;
+    if p.count == 0 {
+        return bare(p.kind, tag, own, found);
+    }
     let initial = has(ix, Key::INITIAL);
     let expr = has(ix, Key::EXPR);
     let binds = has(ix, Key::BINDING);
@@ -177,7 +201,7 @@ pub fn heard(src: &[u8], p: Plain, ix: [u8; Plain::KEYS], own: u32, found: u32) 
     let mode = type_of(or_else(typed, code, 0));
     let history = or_else(typed, code, 1);
     Heard {
-        kind: kind,
+        kind: p.kind,
         tag: tag,
         own: own,
         initial: initial,
@@ -251,17 +275,22 @@ fn complete(ix: [u8; Plain::KEYS], tag: u32) -> bool
     true
 }
 
-// Two keys of one element that exclude each other.
+// Two keys of one element that exclude each other: three elements have such keys.
 fn keys_apart(ix: [u8; Plain::KEYS], tag: u32) -> bool
     ensures { λ r. ⌜ r ≡ apartBy (isMarked ix) tag ⌝ }
 {
     let send = Tag::SEND == tag;
+    let cancel = Tag::CANCEL == tag;
+    let param = Tag::PARAM == tag;
+    if !(send | cancel | param) {
+        return true;
+    }
     let event = send & !(ix[Key::EVENT] == 0) & !(ix[Key::EVENTEXPR] == 0);
     let target = send & !(ix[Key::TARGET] == 0) & !(ix[Key::TARGETEXPR] == 0);
     let kind = send & !(ix[Key::TYPE] == 0) & !(ix[Key::TYPEEXPR] == 0);
     let id = send & !(ix[Key::ID] == 0) & !(ix[Key::IDLOCATION] == 0);
-    let sendid = (Tag::CANCEL == tag) & !(ix[Key::SENDID] == 0) & !(ix[Key::SENDIDEXPR] == 0);
-    let expr = (Tag::PARAM == tag) & !(ix[Key::EXPR] == 0) & !(ix[Key::LOCATION] == 0);
+    let sendid = cancel & !(ix[Key::SENDID] == 0) & !(ix[Key::SENDIDEXPR] == 0);
+    let expr = param & !(ix[Key::EXPR] == 0) & !(ix[Key::LOCATION] == 0);
     !event & (!target & (!kind & (!id & (!sendid & (!expr & true)))))
 }
 
@@ -287,19 +316,19 @@ fn data_apart(src: &[u8], p: Plain, tag: u32, expr: bool) -> bool
     true
 }
 
-// A text beside expr.
+// A text beside expr: only a whole event has a text.
 fn text_apart(src: &[u8], p: Plain, ix: [u8; Plain::KEYS]) -> bool
     requires { ⌜ ix ≡ indexOf (slotsOf p) ⌝ }
     ensures { λ r. ⌜ r ≡ textApartIn (parsedIn (now (src .entry)) p) ⌝ }
 {
     let tag = p.tag;
-    let whole = p.kind == Kind::WHOLE;
+    if p.kind != Kind::WHOLE {
+        return true;
+    }
     let expr = has(ix, Key::EXPR);
     let v = value(src, p, ix, Key::EXPR);
     let data = data_apart(src, p, tag, expr);
-    data
-        & !((tag == Tag::CONTENT) & expr & whole)
-        & !((tag == Tag::ASSIGN) & (1 <= v.len()) & whole)
+    data & !((tag == Tag::CONTENT) & expr) & !((tag == Tag::ASSIGN) & (1 <= v.len()))
 }
 
 pub fn ask(src: &[u8], p: Plain, ix: [u8; Plain::KEYS]) -> Asked
