@@ -22,7 +22,7 @@ use Rattle.parts.specs.declared.Walked.{Walked}
 use Rattle.walk.specs.declared.Found.{Found}
 use Rattle.parts.specs.Parts as P
 use Rattle.parts.specs.Parts.{partAt, withKind, withName, withKey, withText, addedValue}
-use Rattle.walk.specs.Walk.{fits, written, found, nameFits, keyFits, valueFits, textFits, onEvent, onName, onKey, onValue, step}
+use Rattle.walk.specs.Walk.{AsWritten, fits, written, found, nameFits, keyFits, valueFits, textFits, onEvent, onName, onKey, onValue, step}
 use Rattle.walk.proofs.Standing.{after-split}
 
 -- ---- a line by its head
@@ -135,6 +135,10 @@ module _ (low high at : ℕ) (x : List ℕ) where
 
     pub size-small : (s .ok && leb low (s .len) && leb (s .len) top) ≡ true → s .len ≤ high
     size-small f = omega (arith, et, leb-true (s .len) top (and-right (s .ok && leb low (s .len)) (leb (s .len) top) f))
+
+pub as-found : (high at : ℕ) (x : List ℕ) → AsWritten high x → record { ok = true; part = partAt at (length x) (length x) } ≡ found 1 high at x
+unfolding written
+as-found high at x a = ap (λ (n : ℕ). record { ok = true; part = partAt at (length x) n }) (sym (a .long)) ∙ sym (found-by 1 high at x true (a .within))
 
 -- What a line with a part makes, r, by whether the part is within its limits: `put` is what the part adds to d.
 module _ (low high at : ℕ) (x : List ℕ) (m : Found) (em : m ≡ found low high at x) (d r : Walked) (put : Part → Walked)

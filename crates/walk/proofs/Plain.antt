@@ -1,14 +1,19 @@
--- Names of elements and keys have no byte that is escaped, so a number can be read off the bytes as they are written.
-use Prim.Native.Nat.{ℕ, suc}
+-- Names of elements and keys have 1 to 64 bytes and none that is escaped, so a number can be read off the bytes as they are written, and what has one need not be scanned.
+use Prim.Native.Nat.{ℕ, suc, _+_, _<_}
 use mathlib.Core.Path.{_≡_, refl, sym, ap, _∙_, subst}
 use mathlib.Core.Bool.{Bool, true, false, _&&_, not}
 use mathlib.Core.Option.{Option, none, some}
 use mathlib.Core.List.{List, [], _∷_}
+use native.Mathlib.Omega.{arith}
 use lib.ListN.{length}
-use lib.Dec.{eqb, ltb}
+use lib.Dec.{eqb, leb, ltb}
+use borrow.Author.Tests.{ltb-true}
 use Rattle.definition.specs.Text.{same, placeIn, isAllowed, allAllowed}
 use Rattle.definition.specs.Elements.{elementNames, keyNames, numberIn, tagOf, keyOf}
 use Rattle.definition.specs.Event.{legible, unescapeFrom, prepend, ifAllowed}
+use Rattle.lines.specs.declared.Scan.{Scan}
+use Rattle.lines.specs.Escapes.{scanned, counted}
+use Rattle.walk.specs.Walk.{fits, AsWritten}
 use Rattle.definition.proofs.Base.{true-is-false, none-is-some, some-inj, and-left, and-right, bool-ext, same-refl, same-eq}
 
 unfoldable isPlain : ℕ → Bool
@@ -19,10 +24,27 @@ unfolding isPlain
 allPlain [] = true
 allPlain (b ∷ bs) = elim (isPlain b) [ true ↦ allPlain bs | false ↦ false ]
 
-unfoldable eachPlain : List (List ℕ) → Bool
+-- Of 1 to 64 plain bytes.
+unfoldable isBrief : List ℕ → Bool
 unfolding allPlain
-eachPlain [] = true
-eachPlain (w ∷ ws) = elim (allPlain w) [ true ↦ eachPlain ws | false ↦ false ]
+isBrief w = allPlain w && leb 1 (length w) && leb (length w) 64
+
+unfoldable eachBrief : List (List ℕ) → Bool
+unfolding isBrief
+eachBrief [] = true
+eachBrief (w ∷ ws) = elim (isBrief w) [ true ↦ eachBrief ws | false ↦ false ]
+
+elements-brief : eachBrief elementNames ≡ true
+unfolding elementNames allPlain isBrief eachBrief isPlain isAllowed
+elements-brief = refl
+
+keys-brief : eachBrief keyNames ≡ true
+unfolding keyNames allPlain isBrief eachBrief isPlain isAllowed
+keys-brief = refl
+
+brief-plain : (w : List ℕ) → isBrief w ≡ true → allPlain w ≡ true
+unfolding isBrief
+brief-plain w e = and-left (allPlain w) (leb 1 (length w)) (and-left (allPlain w && leb 1 (length w)) (leb (length w) 64) e)
 
 record Plain (b : ℕ) (bs : List ℕ) : Type 0 where
   allowed : isAllowed b ≡ true
@@ -120,25 +142,64 @@ module _ (v x : List ℕ) (e : legible v ≡ some x) where
       (λ f. let z : w ≡ v = same-eq w v f in let y : w ≡ x = some-inj [] w x (sym (legible-plain w p) ∙ ap legible z ∙ e) in subst (λ (y : List ℕ). same w y ≡ true) y (same-refl w))
       (λ f. let z : w ≡ x = same-eq w x f in let y : v ≡ w = written-plain w v p (unallowed (unescapeFrom false v) w (e ∙ ap (λ (y : List ℕ). some y) (sym z))) in subst (λ (y : List ℕ). same w y ≡ true) (sym y) (same-refl w))
 
-  place-plain : (ns : List (List ℕ)) → eachPlain ns ≡ true → placeIn ns v ≡ placeIn ns x
-  unfolding placeIn eachPlain
+  place-plain : (ns : List (List ℕ)) → eachBrief ns ≡ true → placeIn ns v ≡ placeIn ns x
+  unfolding placeIn eachBrief
   place-plain [] p = refl
-  place-plain (n ∷ ns) p = go (allPlain n) (same n v) refl refl (place-plain ns)
+  place-plain (n ∷ ns) p = go (isBrief n) (same n v) refl refl (place-plain ns)
     where
-      go : (q r : Bool) → allPlain n ≡ q → same n v ≡ r → (eachPlain ns ≡ true → placeIn ns v ≡ placeIn ns x) → placeIn (n ∷ ns) v ≡ placeIn (n ∷ ns) x
-      go false r q s ih = true-is-false (sym (rw (q, eachPlain) at p))
-      go true true q s ih = let t : same n x ≡ true = sym (same-plain n q) ∙ s in rw (s, t, placeIn)
-      go true false q s ih = let t : same n x ≡ false = sym (same-plain n q) ∙ s in rw (s, t, placeIn) (ap suc (ih (rw (q, eachPlain) at p)))
+      go : (q r : Bool) → isBrief n ≡ q → same n v ≡ r → (eachBrief ns ≡ true → placeIn ns v ≡ placeIn ns x) → placeIn (n ∷ ns) v ≡ placeIn (n ∷ ns) x
+      go false r q s ih = true-is-false (sym (rw (q, eachBrief) at p))
+      go true true q s ih = let t : same n x ≡ true = sym (same-plain n (brief-plain n q)) ∙ s in rw (s, t, placeIn)
+      go true false q s ih = let t : same n x ≡ false = sym (same-plain n (brief-plain n q)) ∙ s in rw (s, t, placeIn) (ap suc (ih (rw (q, eachBrief) at p)))
 
-  number-plain : (ns : List (List ℕ)) → eachPlain ns ≡ true → numberIn ns v ≡ numberIn ns x
+  number-plain : (ns : List (List ℕ)) → eachBrief ns ≡ true → numberIn ns v ≡ numberIn ns x
   unfolding numberIn
   number-plain ns p = ap (λ (i : ℕ). elim (ltb i (length ns)) as (λ b. ℕ) [ true ↦ suc i | false ↦ 0 ]) (place-plain ns p)
 
   -- The number of what is written is the number of what is read.
   pub tag-plain : tagOf v ≡ tagOf x
-  unfolding tagOf elementNames allPlain eachPlain isPlain isAllowed
-  tag-plain = number-plain elementNames refl
+  unfolding tagOf
+  tag-plain = number-plain elementNames elements-brief
 
   pub key-plain : keyOf v ≡ keyOf x
-  unfolding keyOf keyNames allPlain eachPlain isPlain isAllowed
-  key-plain = number-plain keyNames refl
+  unfolding keyOf
+  key-plain = number-plain keyNames keys-brief
+
+-- ---- what has a number need not be scanned
+
+as-written : (w : List ℕ) → isBrief w ≡ true → AsWritten 64 w
+unfolding isBrief fits scanned counted
+as-written w e =
+    let n : 0 + length w ≡ length w = omega arith in
+    let z : scanned w ≡ record { ok = true; len = length w } = ap (counted 0) (legible-plain w (brief-plain w e)) ∙ ap (λ (k : ℕ). record { ok = true; len = k }) n in
+    record {
+      within = ap (fits 1 64) z ∙ ap (λ (p : Bool). p && leb 1 (length w) && leb (length w) 64) (sym (brief-plain w e)) ∙ e;
+      long = ap (λ (s : Scan). s .len) z;
+    }
+
+module _ (w : List ℕ) where
+  place-brief : (ns : List (List ℕ)) → eachBrief ns ≡ true → placeIn ns w < length ns → isBrief w ≡ true
+  unfolding placeIn eachBrief
+  place-brief [] p k = absurd (omega (arith, k))
+  place-brief (n ∷ ns) p k = go (isBrief n) (same n w) refl refl (place-brief ns)
+    where
+      go : (q r : Bool) → isBrief n ≡ q → same n w ≡ r → (eachBrief ns ≡ true → placeIn ns w < length ns → isBrief w ≡ true) → isBrief w ≡ true
+      go false r q s ih = true-is-false (sym (rw (q, eachBrief) at p))
+      go true true q s ih = subst (λ (x : List ℕ). isBrief x ≡ true) (same-eq n w s) q
+      go true false q s ih = let j : placeIn (n ∷ ns) w ≡ suc (placeIn ns w) = rw (s, placeIn) in ih (rw (q, eachBrief) at p) (omega (arith, j, k))
+
+  number-known : (ns : List (List ℕ)) → eachBrief ns ≡ true → (c : ℕ) → c ≡ numberIn ns w → (c ≡ 0 → ⊥) → AsWritten 64 w
+  unfolding numberIn
+  number-known ns p c e f = go (ltb (placeIn ns w) (length ns)) refl
+    where
+      go : (q : Bool) → ltb (placeIn ns w) (length ns) ≡ q → AsWritten 64 w
+      go true q = as-written w (place-brief ns p (ltb-true (placeIn ns w) (length ns) q))
+      go false q = absurd (f (e ∙ rw (q, numberIn)))
+
+  pub tag-known : (c : ℕ) → c ≡ tagOf w → (c ≡ 0 → ⊥) → AsWritten 64 w
+  unfolding tagOf
+  tag-known = number-known elementNames elements-brief
+
+  pub key-known : (c : ℕ) → c ≡ keyOf w → (c ≡ 0 → ⊥) → AsWritten 64 w
+  unfolding keyOf
+  key-known = number-known keyNames keys-brief

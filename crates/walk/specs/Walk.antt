@@ -1,5 +1,6 @@
 -- An event's lines walked in order.
 use Prim.Native.Nat.{ℕ, zero, suc, _+_}
+use mathlib.Core.Path.{_≡_}
 use mathlib.Core.Bool.{Bool, true, false, _&&_}
 use mathlib.Core.List.{List, [], _∷_}
 use lib.ListN.{length}
@@ -40,6 +41,11 @@ found low high at x =
       | true ↦ record { ok = true; part = written at x }
       | false ↦ record { ok = false; part = partAt 0 0 0 }
     ]
+
+-- A part of 1 to `high` bytes without an escape.
+pub record AsWritten (high : ℕ) (x : List ℕ) : Type 0 where
+  pub within : fits 1 high (scanned x) ≡ true
+  pub long : scanned x .len ≡ length x
 
 -- Parts within their limits: "element name 1 to 64 bytes", "key 1 to 64; value 1,024; text 4,096".
 unfoldable pub nameFits : List ℕ → Bool

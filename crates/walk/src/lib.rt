@@ -25,7 +25,7 @@ ghost use Rattle.definition.specs.Text.{str};
 ghost use Rattle.definition.specs.Event.{lineOf};
 ghost use Rattle.lines.specs.Lines.{hasHead};
 ghost use Rattle.parts.specs.Parts.{Steps};
-ghost use Rattle.walk.specs.Walk.{found, onEvent, onName, onKey, onValue, step, walked};
+ghost use Rattle.walk.specs.Walk.{AsWritten, found, onEvent, onName, onKey, onValue, step, walked};
 
 // A part, and whether it is legible and within its limits.
 pub struct Found {
@@ -65,6 +65,28 @@ fn find_part(written: &[u8], at: usize, low: usize, high: u32) -> Found
     }
 }
 
+// The part of a name or key by its number: one that is known is legible as it is written, so it is not scanned.
+fn part_by_code(code: u32, written: &[u8], at: usize, high: u32) -> Found
+    requires { ⌜ at + length (now written) < 2 ^ 16 ⌝ }
+    requires { ⌜ high < 2 ^ 16 ⌝ }
+    requires { ⌜ ((code ≡ 0 → ⊥) → AsWritten high (now written)) ⌝ }
+    ensures { λ r. ⌜ r ≡ found 1 high at (now (written .entry)) ⌝ }
+{
+    if code == 0 {
+        return find_part(written, at, 1, high);
+    }
+    let len = written.len();
+    let part = Part {
+        at: at as u16,
+        len: len as u16,
+        size: len as u16,
+    };
+    Found {
+        ok: true,
+        part: part,
+    }
+}
+
 // One line more, by what may come.
 fn on_event(line: &[u8], d: Cursor) -> Cursor
     ensures { λ r. ⌜ Steps d r (onEvent (lineOf (now (line .entry)))) ⌝ }
@@ -88,12 +110,12 @@ fn on_name(line: &[u8], at: usize, d: Cursor) -> Cursor
         return break_off(d);
     }
     let name = after_head(line, 5);
-    let f = find_part(name, at + 5, 1, Chart::NAME);
+    let tag = tag_of(name);
+    let f = part_by_code(tag, name, at + 5, Chart::NAME);
     if !f.ok {
         return break_off(d);
     }
     let part = f.part;
-    let tag = tag_of(name);
     let mut e = d;
     e.added = false;
     e.next = 2;
@@ -130,12 +152,12 @@ fn on_key(line: &[u8], at: usize, d: Cursor) -> Cursor
         return break_off(d);
     }
     let key = after_head(line, 4);
-    let f = find_part(key, at + 4, 1, Chart::KEY);
+    let code = key_of(key);
+    let f = part_by_code(code, key, at + 4, Chart::KEY);
     if !f.ok {
         return break_off(d);
     }
     let part = f.part;
-    let code = key_of(key);
     let mut e = d;
     e.added = false;
     e.next = 3;

@@ -1,6 +1,7 @@
 use Rattle.parts.specs.Parts.{whole}
 use Rattle.parts.proofs.CodeLaws.{steps-as, no-value}
 use Rattle.walk.proofs.CodeLaws.{not-key, key-bad, key-good, head-length, rest-fits}
+use Rattle.walk.proofs.Plain.{key-known}
 use Rattle.definition.specs.Text.{str}
 use Rattle.parts.specs.Parts.{withKey}
 use Prim.Native.Nat.{_-_}
@@ -40,27 +41,27 @@ returns-2 c = steps-as (c .before .before .before .before .before .before .befor
 after-head-requires : tie.Need-after-head-requires
 after-head-requires c κs = tt
 
-add-find-part : tie.Need-add-find-part
-unfolding str
-add-find-part c = omega (arith, c .before .before .before .before .before .before .before .before .pre, head-length (str "key=") (c .before .before .before .before .before .before .before .before .args .line .now) (sym (c .before .before .has-head2 .ensures) ∙ not-false _ (c .before .if2 .left)))
+key-of-requires : tie.Need-key-of-requires
+key-of-requires c κs = tt
 
-find-part-requires : tie.Need-find-part-requires
+add-part-by-code : tie.Need-add-part-by-code
 unfolding str
-find-part-requires c κs = (rest-fits (str "key=") (c .before .before .before .before .before .before .before .before .args .line .now) (c .after-head .result .now) (c .before .before .before .before .before .before .before .before .args .at) _ (sym (c .before .before .has-head2 .ensures) ∙ not-false _ (c .before .if2 .left)) (c .after-head .ensures) (c .before .before .before .before .before .before .before .before .pre), omega arith)
+add-part-by-code c = omega (arith, c .before .before .before .before .before .before .before .before .before .pre, head-length (str "key=") (c .before .before .before .before .before .before .before .before .before .args .line .now) (sym (c .before .before .before .has-head2 .ensures) ∙ not-false _ (c .before .before .if2 .left)))
+
+part-by-code-requires : tie.Need-part-by-code-requires
+unfolding str
+part-by-code-requires c κs = (rest-fits (str "key=") (c .before .before .before .before .before .before .before .before .before .args .line .now) (c .before .after-head .result .now) (c .before .before .before .before .before .before .before .before .before .args .at) _ (sym (c .before .before .before .has-head2 .ensures) ∙ not-false _ (c .before .before .if2 .left)) (c .before .after-head .ensures) (c .before .before .before .before .before .before .before .before .before .pre), (omega arith, key-known (c .before .after-head .result .now) (c .key-of .result) (c .key-of .ensures)))
 
 break-off-requires-2 : tie.Need-break-off-requires-2
 break-off-requires-2 c κs = tt
 
 returns-3 : tie.Need-returns-3
 unfolding str
-returns-3 c = steps-as (c .before .before .before .before .before .before .before .before .before .before .before .before .args .d) _ _ _ (c .break-off2 .ensures .0) (λ ps. key-bad (c .before .before .before .before .before .before .before .before .before .before .before .before .args .line .now) (c .before .before .before .before .before .before .before .before .before .before .before .before .args .at) (whole (c .before .before .before .before .before .before .before .before .before .before .before .before .args .d) ps) (c .before .before .before .before .after-head .result .now) (c .before .before .before .find-part .result) (sym (c .before .before .before .before .before .before .has-head2 .ensures) ∙ not-false _ (c .before .before .before .before .before .if2 .left)) (c .before .before .before .before .after-head .ensures) (c .before .before .before .find-part .ensures) (not-true _ (c .before .if3 .taken)))
-
-key-of-requires : tie.Need-key-of-requires
-key-of-requires c κs = tt
+returns-3 c = steps-as (c .before .before .before .before .before .before .before .before .before .before .before .before .before .args .d) _ _ _ (c .break-off2 .ensures .0) (λ ps. key-bad (c .before .before .before .before .before .before .before .before .before .before .before .before .before .args .line .now) (c .before .before .before .before .before .before .before .before .before .before .before .before .before .args .at) (whole (c .before .before .before .before .before .before .before .before .before .before .before .before .before .args .d) ps) (c .before .before .before .before .before .after-head .result .now) (c .before .before .before .part-by-code .result) (sym (c .before .before .before .before .before .before .before .has-head2 .ensures) ∙ not-false _ (c .before .before .before .before .before .before .if2 .left)) (c .before .before .before .before .before .after-head .ensures) (c .before .before .before .part-by-code .ensures) (not-true _ (c .before .if3 .taken)))
 
 returns-4 : tie.Need-returns-4
 unfolding str withKey
-returns-4 c = record { is = λ ps. key-good (c .before .before .before .before .before .before .before .before .before .before .before .before .before .args .line .now) (c .before .before .before .before .before .before .before .before .before .before .before .before .before .args .at) (whole (c .before .before .before .before .before .before .before .before .before .before .before .before .before .args .d) ps) (c .before .before .before .before .before .after-head .result .now) (c .before .before .before .before .find-part .result) (sym (c .before .before .before .before .before .before .before .has-head2 .ensures) ∙ not-false _ (c .before .before .before .before .before .before .if2 .left)) (c .before .before .before .before .before .after-head .ensures) (c .before .before .before .before .find-part .ensures) (c .key-of .result) (c .key-of .ensures) (not-false _ (c .before .before .if3 .left)); room = λ e. no-value e }
+returns-4 c = record { is = λ ps. key-good (c .before .before .before .before .before .before .before .before .before .before .before .before .before .args .line .now) (c .before .before .before .before .before .before .before .before .before .before .before .before .before .args .at) (whole (c .before .before .before .before .before .before .before .before .before .before .before .before .before .args .d) ps) (c .before .before .before .before .before .after-head .result .now) (c .before .before .before .part-by-code .result) (sym (c .before .before .before .before .before .before .before .has-head2 .ensures) ∙ not-false _ (c .before .before .before .before .before .before .if2 .left)) (c .before .before .before .before .before .after-head .ensures) (c .before .before .before .part-by-code .ensures) (c .before .before .before .before .key-of .result) (c .before .before .before .before .key-of .ensures) (not-false _ (c .before .if3 .left)); room = λ e. no-value e }
 
 pub on-key-spec : {M : Type 1} → statement M
 on-key-spec =
@@ -75,9 +76,9 @@ on-key-spec =
     break-off-requires
     returns-2
     after-head-requires
-    add-find-part
-    find-part-requires
+    key-of-requires
+    add-part-by-code
+    part-by-code-requires
     break-off-requires-2
     returns-3
-    key-of-requires
     returns-4)

@@ -1,6 +1,7 @@
 use Rattle.parts.specs.Parts.{whole}
 use Rattle.parts.proofs.CodeLaws.{steps-as, no-value}
 use Rattle.walk.proofs.CodeLaws.{not-name, name-bad, name-good, head-length, rest-fits}
+use Rattle.walk.proofs.Plain.{tag-known}
 use Rattle.definition.specs.Text.{str}
 use Rattle.parts.specs.Parts.{withName}
 use Prim.Native.Nat.{_-_}
@@ -27,27 +28,27 @@ returns c = steps-as (c .before .before .before .before .before .args .d) _ _ _ 
 after-head-requires : tie.Need-after-head-requires
 after-head-requires c κs = tt
 
-add-find-part : tie.Need-add-find-part
-unfolding str
-add-find-part c = omega (arith, c .before .before .before .before .before .pre, head-length (str "name=") (c .before .before .before .before .before .args .line .now) (sym (c .before .before .has-head .ensures) ∙ not-false _ (c .before .if1 .left)))
+tag-of-requires : tie.Need-tag-of-requires
+tag-of-requires c κs = tt
 
-find-part-requires : tie.Need-find-part-requires
+add-part-by-code : tie.Need-add-part-by-code
 unfolding str
-find-part-requires c κs = (rest-fits (str "name=") (c .before .before .before .before .before .args .line .now) (c .after-head .result .now) (c .before .before .before .before .before .args .at) _ (sym (c .before .before .has-head .ensures) ∙ not-false _ (c .before .if1 .left)) (c .after-head .ensures) (c .before .before .before .before .before .pre), omega arith)
+add-part-by-code c = omega (arith, c .before .before .before .before .before .before .pre, head-length (str "name=") (c .before .before .before .before .before .before .args .line .now) (sym (c .before .before .before .has-head .ensures) ∙ not-false _ (c .before .before .if1 .left)))
+
+part-by-code-requires : tie.Need-part-by-code-requires
+unfolding str
+part-by-code-requires c κs = (rest-fits (str "name=") (c .before .before .before .before .before .before .args .line .now) (c .before .after-head .result .now) (c .before .before .before .before .before .before .args .at) _ (sym (c .before .before .before .has-head .ensures) ∙ not-false _ (c .before .before .if1 .left)) (c .before .after-head .ensures) (c .before .before .before .before .before .before .pre), (omega arith, tag-known (c .before .after-head .result .now) (c .tag-of .result) (c .tag-of .ensures)))
 
 break-off-requires-2 : tie.Need-break-off-requires-2
 break-off-requires-2 c κs = tt
 
 returns-2 : tie.Need-returns-2
 unfolding str
-returns-2 c = steps-as (c .before .before .before .before .before .before .before .before .before .args .d) _ _ _ (c .break-off2 .ensures .0) (λ ps. name-bad (c .before .before .before .before .before .before .before .before .before .args .line .now) (c .before .before .before .before .before .before .before .before .before .args .at) (whole (c .before .before .before .before .before .before .before .before .before .args .d) ps) (c .before .before .before .before .after-head .result .now) (c .before .before .before .find-part .result) (sym (c .before .before .before .before .before .before .has-head .ensures) ∙ not-false _ (c .before .before .before .before .before .if1 .left)) (c .before .before .before .before .after-head .ensures) (c .before .before .before .find-part .ensures) (not-true _ (c .before .if2 .taken)))
-
-tag-of-requires : tie.Need-tag-of-requires
-tag-of-requires c κs = tt
+returns-2 c = steps-as (c .before .before .before .before .before .before .before .before .before .before .args .d) _ _ _ (c .break-off2 .ensures .0) (λ ps. name-bad (c .before .before .before .before .before .before .before .before .before .before .args .line .now) (c .before .before .before .before .before .before .before .before .before .before .args .at) (whole (c .before .before .before .before .before .before .before .before .before .before .args .d) ps) (c .before .before .before .before .before .after-head .result .now) (c .before .before .before .part-by-code .result) (sym (c .before .before .before .before .before .before .before .has-head .ensures) ∙ not-false _ (c .before .before .before .before .before .before .if1 .left)) (c .before .before .before .before .before .after-head .ensures) (c .before .before .before .part-by-code .ensures) (not-true _ (c .before .if2 .taken)))
 
 returns-3 : tie.Need-returns-3
 unfolding str withName
-returns-3 c = record { is = λ ps. name-good (c .before .before .before .before .before .before .before .before .before .before .args .line .now) (c .before .before .before .before .before .before .before .before .before .before .args .at) (whole (c .before .before .before .before .before .before .before .before .before .before .args .d) ps) (c .before .before .before .before .before .after-head .result .now) (c .before .before .before .before .find-part .result) (sym (c .before .before .before .before .before .before .before .has-head .ensures) ∙ not-false _ (c .before .before .before .before .before .before .if1 .left)) (c .before .before .before .before .before .after-head .ensures) (c .before .before .before .before .find-part .ensures) (c .tag-of .result) (c .tag-of .ensures) (not-false _ (c .before .before .if2 .left)); room = λ e. no-value e }
+returns-3 c = record { is = λ ps. name-good (c .before .before .before .before .before .before .before .before .before .before .args .line .now) (c .before .before .before .before .before .before .before .before .before .before .args .at) (whole (c .before .before .before .before .before .before .before .before .before .before .args .d) ps) (c .before .before .before .before .before .after-head .result .now) (c .before .before .before .part-by-code .result) (sym (c .before .before .before .before .before .before .before .has-head .ensures) ∙ not-false _ (c .before .before .before .before .before .before .if1 .left)) (c .before .before .before .before .before .after-head .ensures) (c .before .before .before .part-by-code .ensures) (c .before .before .before .before .tag-of .result) (c .before .before .before .before .tag-of .ensures) (not-false _ (c .before .if2 .left)); room = λ e. no-value e }
 
 pub on-name-spec : {M : Type 1} → statement M
 on-name-spec =
@@ -58,9 +59,9 @@ on-name-spec =
     break-off-requires
     returns
     after-head-requires
-    add-find-part
-    find-part-requires
+    tag-of-requires
+    add-part-by-code
+    part-by-code-requires
     break-off-requires-2
     returns-2
-    tag-of-requires
     returns-3)
