@@ -17,7 +17,7 @@ use Rattle.entries.specs.Whole.{chartIn, statesIn}
 use Rattle.entries.proofs.Clean.{chart-clean, states-clean, transitions-clean, entries-clean, invokes-clean, datums-clean, parameters-clean}
 use Rattle.tables.proofs.Clean.{regions-clean}
 use Rattle.tables.proofs.Clean.{two-over, opened-clean, names-clean, open-regions-clean}
-use Rattle.apply.specs.declared.Counts.{Counts}
+use Rattle.definition.specs.declared.Position.{Position}
 use Rattle.apply.specs.Applied.{tablesOf, appliedIn}
 use Rattle.apply.proofs.Laws.{joined}
 
@@ -26,7 +26,7 @@ abbrev pub listed : Look → Plan → ℕ → Table → Table
 listed l p used ms = targetsAfter l (p .members .owner) (p .members .skip) (wordsAfter l (p .members .words) (take used ms))
 
 -- Every row has its place, and a shape is one of texts.
-pub record Fits (l : Look) (p : Plan) (n : Counts) (m count used pending : ℕ) (a b c d e f i j ms o q r : Table) : Type 0 where
+pub record Fits (l : Look) (p : Plan) (n : Position) (m count used pending : ℕ) (a b c d e f i j ms o q r : Table) : Type 0 where
   pub placed : Placed (l .fields)
   pub chart : (1 ≤ length a) × (p .chart .at ≤ 1)
   pub states : (count ≤ length b) × (p .states .at ≤ count)
@@ -48,7 +48,7 @@ pub record Fits (l : Look) (p : Plan) (n : Counts) (m count used pending : ℕ) 
   pub kept : (p .pending .kept ≤ pending) × (pending ≤ length r)
   pub pushed : p .pending .kept + oneUnless (p .pending .tag) + oneUnless (p .pending .by) ≤ length r
 
-module _ (l : Look) (p : Plan) (n : Counts) (m count used pending : ℕ) (a b c d e f i j ms o q r : Table) (N : Numbers) where
+module _ (l : Look) (p : Plan) (n : Position) (m count used pending : ℕ) (a b c d e f i j ms o q r : Table) (N : Numbers) where
   -- What is in use of the tables.
   abbrev used-rows : List Table
   used-rows =

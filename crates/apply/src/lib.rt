@@ -2,12 +2,14 @@
 use charts::change_chart;
 use charts::change_states;
 use charts::change_transitions;
+use definition::Position;
 use entries::change_datums;
 use entries::change_entries;
 use entries::change_invokes;
 use entries::change_parameters;
 use payload::put_bytes;
 use plan::Plan;
+use rows::index;
 use tables::add_two;
 use tables::change_open_regions;
 use tables::change_opened;
@@ -18,18 +20,6 @@ ghost use lib.ListN.{length};
 ghost use Rattle.definition.specs.Look.{keptName, nameRow};
 ghost use Rattle.tables.specs.Whole.{openRowIn};
 ghost use Rattle.apply.specs.Applied.{tablesOf, appliedIn};
-
-// How many rows of a table are in use where one may come; of members, after the event's words and targets.
-pub struct Counts {
-    pub transitions: usize,
-    pub regions: usize,
-    pub entries: usize,
-    pub invokes: usize,
-    pub datums: usize,
-    pub parameters: usize,
-    pub members: usize,
-    pub opened: usize,
-}
 
 fn change_open_names(names: &mut [[u8; 64]], n: usize, moves: u32, row: [u8; 64])
     ensures { λ _. ⌜ now (names .exit) ≡ openRowIn moves n (now (names .entry)) row ⌝ }
@@ -55,6 +45,7 @@ pub fn name_row(tag: u32, name: &[u8]) -> [u8; 64]
     row
 }
 
+// n: the reading position, with the members as they are after the event's words and targets.
 pub fn apply(
     chart: &mut [[u32; 24]],
     states: &mut [[u32; 24]],
@@ -73,7 +64,7 @@ pub fn apply(
     moves: u32,
     length: u32,
     name: [u8; 64],
-    n: Counts,
+    n: Position,
     p: Plan,
 )
     requires { ⌜ ((n .regions < 65536) × (n .members < 65536)) × (p .pending .kept < 65536) ⌝ }
@@ -94,14 +85,14 @@ pub fn apply(
     let pe = p.pending;
     change_chart(chart, ch, tag, t);
     change_states(states, st, tag, t);
-    change_transitions(transitions, n.transitions, tr, tag, t);
-    change_regions(regions, n.regions, re);
-    change_entries(entries, n.entries, en, tag, t);
-    change_invokes(invokes, n.invokes, inv, tag, t);
-    change_datums(datums, n.datums, it, tag, t);
-    change_parameters(parameters, n.parameters, pa, tag, t);
-    add_two(members, n.members, one, two);
-    change_opened(opened, n.opened, moves, tag, length, op);
-    change_open_names(names, n.opened, moves, name);
+    change_transitions(transitions, index(n.transitions), tr, tag, t);
+    change_regions(regions, index(n.regions), re);
+    change_entries(entries, index(n.entries), en, tag, t);
+    change_invokes(invokes, index(n.invokes), inv, tag, t);
+    change_datums(datums, index(n.datums), it, tag, t);
+    change_parameters(parameters, index(n.parameters), pa, tag, t);
+    add_two(members, index(n.members), one, two);
+    change_opened(opened, index(n.opened), moves, tag, length, op);
+    change_open_names(names, index(n.opened), moves, name);
     change_open_regions(pending, pe);
 }

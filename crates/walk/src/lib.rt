@@ -24,13 +24,29 @@ ghost use lib.ListN.{length};
 ghost use Rattle.definition.specs.Text.{str};
 ghost use Rattle.definition.specs.Event.{lineOf};
 ghost use Rattle.lines.specs.Lines.{hasHead};
-ghost use Rattle.parts.specs.Parts.{Steps};
+ghost use Rattle.parts.specs.Parts.{Steps, partAt};
 ghost use Rattle.walk.specs.Walk.{AsWritten, found, onEvent, onName, onKey, onValue, step, walked};
 
 // A part, and whether it is legible and within its limits.
 pub struct Found {
     pub ok: bool,
     pub part: Part,
+}
+
+// A part that is in order: where it is written, in how many bytes, and its unescaped length.
+fn found_at(at: usize, len: usize, size: usize) -> Found
+    requires { ⌜ ((at < 2 ^ 16) × (len < 2 ^ 16)) × (size < 2 ^ 16) ⌝ }
+    ensures { λ r. ⌜ r ≡ record { ok = true; part = partAt at len size } ⌝ }
+{
+    let part = Part {
+        at: at as u16,
+        len: len as u16,
+        size: size as u16,
+    };
+    Found {
+        ok: true,
+        part: part,
+    }
 }
 
 // What is written at `at`, if it is legible and of `low` to `high` bytes unescaped.
@@ -53,16 +69,7 @@ fn find_part(written: &[u8], at: usize, low: usize, high: u32) -> Found
             part: none,
         };
     }
-    let len = written.len();
-    let part = Part {
-        at: at as u16,
-        len: len as u16,
-        size: size as u16,
-    };
-    Found {
-        ok: true,
-        part: part,
-    }
+    found_at(at, written.len(), size)
 }
 
 // The part of a name or key by its number: one that is known is legible as it is written, so it is not scanned.
@@ -76,15 +83,7 @@ fn part_by_code(code: u32, written: &[u8], at: usize, high: u32) -> Found
         return find_part(written, at, 1, high);
     }
     let len = written.len();
-    let part = Part {
-        at: at as u16,
-        len: len as u16,
-        size: len as u16,
-    };
-    Found {
-        ok: true,
-        part: part,
-    }
+    found_at(at, len, len)
 }
 
 // One line more, by what may come.

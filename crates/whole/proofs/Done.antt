@@ -16,8 +16,7 @@ use Rattle.plan.specs.After.{moveOf, applied}
 use Rattle.payload.specs.Payload.{madeIn, chargeIn}
 use Rattle.payload.proofs.PayloadLaw.{charge-law, made-law}
 use Rattle.fill.specs.Fill.{textsOf}
-use Rattle.apply.specs.declared.Counts.{Counts}
-use Rattle.apply.specs.Applied.{appliedIn}
+use Rattle.apply.specs.Applied.{rowsOf, appliedIn}
 use Rattle.arena.specs.declared.Written.{Written}
 use Rattle.arena.specs.Storing.{Storable, Stored, texts}
 use Rattle.whole.specs.Accepted.{Accepted, afterwards}
@@ -48,18 +47,8 @@ module _ (p : Position) (a b c d f h i j k o y r : Table) (tx : List ℕ) (v : P
     W′ : Stored p (parsedOf e) b k tx (q .members) st′ ms′ tx′ w
     W′ = subst (λ (z : Parsed). Stored p z b k tx (q .members) st′ ms′ tx′ w) (A .parsed) W
 
-    abbrev rows : Counts
-    rows =
-        record {
-          transitions = p .transitions;
-          regions = p .regions;
-          entries = p .entries;
-          invokes = p .invokes;
-          datums = p .datums;
-          parameters = p .parameters;
-          members = w .members;
-          opened = p .opened;
-        }
+    abbrev rows : Position
+    rows = rowsOf p (w .members)
 
     texts-are : w .texts ≡ textsOf (look s e .base) (look s e .fields)
     unfolding look

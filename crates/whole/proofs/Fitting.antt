@@ -29,7 +29,7 @@ use Rattle.payload.specs.Laid.{laid}
 use Rattle.whole.specs.After.{openedBy, positionBy, InRange}
 use Rattle.fill.specs.Fill.{isWords}
 use Rattle.texts.proofs.LookLaw.{fields-placed}
-use Rattle.apply.specs.Applied.{appliedIn}
+use Rattle.apply.specs.Applied.{rowsOf, appliedIn}
 use Rattle.plan.proofs.Fifteen.{alter-length}
 use Rattle.apply.proofs.Wordless.{Quiet, wordless}
 use Rattle.definition.specs.Reader.{positionOf, rowsIn}
@@ -68,7 +68,6 @@ use Rattle.wordlists.specs.Words.{wordRowsOf}
 use Rattle.targets.specs.Names.{piecesIn, skipOf, NameRoom, NamesWritten, OwnIn, TargetsIn}
 use Rattle.arena.specs.Storing.{arena, texts, Storable, Stored}
 use Rattle.arena.specs.declared.Written.{Written}
-use Rattle.apply.specs.declared.Counts.{Counts}
 use Rattle.planfacts.proofs.Places.{Altered, altered}
 use Rattle.planfacts.proofs.UseOf.{in-use}
 use Rattle.arena.proofs.TextLaw.{event-texts}
@@ -368,18 +367,8 @@ module _ (p : Position) (a b c d f h i j k o y r : Table) (tx : List ℕ) (e : E
 
           -- ---- what apply asks
 
-          abbrev rows : Counts
-          rows =
-              record {
-                transitions = p .transitions;
-                regions = p .regions;
-                entries = p .entries;
-                invokes = p .invokes;
-                datums = p .datums;
-                parameters = p .parameters;
-                members = z .members;
-                opened = p .opened;
-              }
+          abbrev rows : Position
+          rows = rowsOf p (z .members)
 
           A : Altered q (length (l .known)) (length (tableOf n 2)) (length (tableOf n 4)) (length (tableOf n 5)) (length (tableOf n 6)) (length (tableOf n 11))
           unfolding planOf look

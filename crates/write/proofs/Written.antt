@@ -14,14 +14,13 @@ use Rattle.plain.proofs.PlainLaw.{form}
 use Rattle.plan.specs.declared.Plan.{Plan}
 use Rattle.plan.specs.After.{moveOf}
 use Rattle.payload.specs.Payload.{madeIn, chargeIn}
-use Rattle.apply.specs.declared.Counts.{Counts}
-use Rattle.apply.specs.Applied.{appliedIn}
+use Rattle.apply.specs.Applied.{rowsOf, appliedIn}
 use Rattle.arena.specs.declared.Written.{Written}
 use Rattle.arena.specs.Storing.{Storable, Stored}
 use Rattle.whole.specs.Accepted.{Accepted, Ready}
 use Rattle.whole.specs.After.{positionBy, InRange}
 use Rattle.whole.proofs.Done as D
-use Rattle.write.specs.Leaves.{rowsOf, Leaves}
+use Rattle.write.specs.Leaves.{Leaves}
 
 module _ (p : Position) (a b c d f h i j k o y r : Table) (tx : List ℕ) (v : Parsed) (q : Plan) (made : Bool) (charge : ℕ) where
   abbrev x : Lent
@@ -41,11 +40,11 @@ module _ (p : Position) (a b c d f h i j k o y r : Table) (tx : List ℕ) (v : P
     pub in-range : InRange p q (v .kind) made charge w
     in-range = D.in-range p a b c d f h i j k o y r tx v q (R .accepted) made (R .makes) charge (R .takes) st′ ms′ tx′ w W
 
-    pub apply-asks : (n : Counts) → n ≡ rowsOf p (w .members) → ((n .regions < 65536) × (n .members < 65536)) × (q .pending .kept < 65536)
-    apply-asks n e = ((omega (arith, ap (λ (z : Counts). z .regions) e, in-range .regions), omega (arith, ap (λ (z : Counts). z .members) e, in-range .members)), in-range .pending)
+    pub apply-asks : (n : Position) → n ≡ rowsOf p (w .members) → ((n .regions < 65536) × (n .members < 65536)) × (q .pending .kept < 65536)
+    apply-asks n e = ((omega (arith, ap (λ (z : Position). z .regions) e, in-range .regions), omega (arith, ap (λ (z : Position). z .members) e, in-range .members)), in-range .pending)
 
     pub leaves : (name : List ℕ) → name ≡ v .name → (row : Row) → row ≡ nameRow (keptName (v .tag) name) → (nl : ℕ) → nl ≡ length (keptName (v .tag) name)
-        → (n : Counts) → n ≡ rowsOf p (w .members) → (m : ℕ) → m ≡ moveOf (v .kind)
+        → (n : Position) → n ≡ rowsOf p (w .members) → (m : ℕ) → m ≡ moveOf (v .kind)
         → (ts : List Table) → ts ≡ appliedIn (w .texts) (v .tag) m nl row n q a st′ c d f h i j ms′ o y r
         → (u : Position) → u ≡ positionBy p q (v .kind) made charge w
         → Leaves x p v q (record { tables = ts; text = tx′ }) u

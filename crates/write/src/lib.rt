@@ -1,6 +1,5 @@
 // All that an accepted event does, written. Nothing here can fail: what is asked of the caller is that the event gets 0.
 use advance::position_after;
-use apply::Counts;
 use apply::apply;
 use apply::name_row;
 use arena::Written;
@@ -24,17 +23,16 @@ use plan::Plan;
 use plan::RegionPlan;
 use plan::StatePlan;
 use plan::TransitionPlan;
-use rows::index;
 ghost use mathlib.Core.Path.{_≡_};
-ghost use Prim.Native.Nat.{_≤_};
+ghost use Prim.Native.Nat.{_<_, _≤_};
 ghost use lib.ListN.{length};
 ghost use Rattle.definition.specs.Look.{keptName};
 ghost use Rattle.lines.specs.Parts.{part};
 ghost use Rattle.plain.specs.Plain.{parsedIn};
 ghost use Rattle.plan.specs.After.{moveOf};
-ghost use Rattle.apply.specs.Applied.{tablesOf};
+ghost use Rattle.apply.specs.Applied.{tablesOf, rowsOf};
 ghost use Rattle.whole.specs.Accepted.{Ready};
-ghost use Rattle.write.specs.Leaves.{rowsOf, Leaves};
+ghost use Rattle.write.specs.Leaves.{Leaves};
 
 fn moves(kind: u32) -> u32
     ensures { λ r. ⌜ r ≡ moveOf kind ⌝ }
@@ -67,19 +65,13 @@ fn name_length(tag: u32, name: &[u8]) -> u32
     0
 }
 
-fn rows_of(p: Position, members: usize) -> Counts
+fn rows_of(p: Position, members: usize) -> Position
+    requires { ⌜ members < 65536 ⌝ }
     ensures { λ r. ⌜ r ≡ rowsOf p members ⌝ }
 {
-    Counts {
-        transitions: index(p.transitions),
-        regions: index(p.regions),
-        entries: index(p.entries),
-        invokes: index(p.invokes),
-        datums: index(p.datums),
-        parameters: index(p.parameters),
-        members: members,
-        opened: index(p.opened),
-    }
+    let mut q = p;
+    q.members = members as u32;
+    q
 }
 
 /// All that an accepted event does: its texts, words and names first, then a row here and there, by its plan.

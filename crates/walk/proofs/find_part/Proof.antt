@@ -1,4 +1,5 @@
 use Rattle.walk.proofs.CodeLaws.{not-found, is-found, size-small}
+use mathlib.Core.Path.{_∙_}
 use Prim.Native.Nat.{_-_}
 use native.Mathlib.Omega.{arith}
 use borrow.Author.Tests.{not-true, not-false}
@@ -15,19 +16,12 @@ wide-requires c κs = search needs
 returns : tie.Need-returns
 returns c = not-found (c .before .before .before .before .before .args .low) (c .before .before .before .before .before .args .high) (c .before .before .before .before .before .args .at) (c .before .before .before .before .before .args .written .now) (c .before .before .wide .result) (c .before .before .before .scan-line .result) (c .before .before .before .scan-line .ensures) (c .before .before .wide .ensures) (not-true _ (c .if1 .taken))
 
-cast-t16 : tie.Need-cast-t16
-cast-t16 c = search needs
-
-cast-t17 : tie.Need-cast-t17
-cast-t17 c = search needs
-
-cast-t18 : tie.Need-cast-t18
-cast-t18 c = omega (arith, c .before .before .before .before .before .pre .1, size-small (c .before .before .before .before .before .args .low) (c .before .before .before .before .before .args .high) (c .before .before .before .before .before .args .at) (c .before .before .before .before .before .args .written .now) (c .before .before .wide .result) (c .before .before .before .scan-line .result) (c .before .before .before .scan-line .ensures) (c .before .before .wide .ensures) (not-false _ (c .if1 .left)))
+found-at-requires : tie.Need-found-at-requires
+found-at-requires c κs = ((omega (arith, c .before .before .before .before .before .pre .0), omega (arith, c .before .before .before .before .before .pre .0)), omega (arith, c .before .before .before .before .before .pre .1, size-small (c .before .before .before .before .before .args .low) (c .before .before .before .before .before .args .high) (c .before .before .before .before .before .args .at) (c .before .before .before .before .before .args .written .now) (c .before .before .wide .result) (c .before .before .before .scan-line .result) (c .before .before .before .scan-line .ensures) (c .before .before .wide .ensures) (not-false _ (c .if1 .left))))
 
 returns-2 : tie.Need-returns-2
-returns-2 c = is-found (c .before .before .before .before .before .args .low) (c .before .before .before .before .before .args .high) (c .before .before .before .before .before .args .at) (c .before .before .before .before .before .args .written .now) (c .before .before .wide .result) (c .before .before .before .scan-line .result) (c .before .before .before .scan-line .ensures) (c .before .before .wide .ensures) (not-false _ (c .if1 .left))
+returns-2 c = c .found-at .ensures ∙ is-found (c .before .before .before .before .before .before .args .low) (c .before .before .before .before .before .before .args .high) (c .before .before .before .before .before .before .args .at) (c .before .before .before .before .before .before .args .written .now) (c .before .before .before .wide .result) (c .before .before .before .before .scan-line .result) (c .before .before .before .before .scan-line .ensures) (c .before .before .before .wide .ensures) (not-false _ (c .before .if1 .left))
 
 pub find-part-spec : {M : Type 1} → statement M
 find-part-spec =
-    tie.close
-    (tie.spec scan-line-requires wide-requires returns cast-t16 cast-t17 cast-t18 returns-2)
+    tie.close (tie.spec scan-line-requires wide-requires returns found-at-requires returns-2)
