@@ -91,9 +91,10 @@ fn initial_row(initial: bool, s: StateId, v: Seen) -> TransitionPlan
 {
     let mut row = no_transition();
     if initial {
-        row.number = v.ids + 1;
+        let t = TransitionId(v.ids + 1);
+        row.number = t;
         row.doc = v.docs + 1;
-        row.source = s.0;
+        row.source = s;
         row.mode = TransitionType::INTERNAL;
         return row;
     }
@@ -116,7 +117,7 @@ fn declared_row(s: StateId, initial: u32, doc: u32, x: Declared) -> StatePlan
     ensures { λ r. ⌜ r ≡ declaredRow (s .0) initial doc x ⌝ }
 {
     StatePlan {
-        at: s.0,
+        at: s,
         texts: 0,
         initial: initial,
         doc: doc,
@@ -266,8 +267,8 @@ fn default_row(t: TransitionId, s: StateId) -> TransitionPlan
     ensures { λ r. ⌜ r ≡ defaultRow (t .0) (s .0) ⌝ }
 {
     let mut row = no_transition();
-    row.number = t.0;
-    row.source = s.0;
+    row.number = t;
+    row.source = s;
     row
 }
 
@@ -415,7 +416,7 @@ fn datum_plan(added: u32, state: StateId, at: u32, v: Seen, q: Heard) -> Plan
 {
     let row = DatumPlan {
         added: added,
-        state: state.0,
+        state: state,
         at: at,
         shape: value_of(q),
     };
