@@ -366,7 +366,7 @@ declaredMembers b x v = record { words = noMember; owner = elim b [ true ↦ suc
 unfoldable pub declaredPlan : Bool → Declared → Seen → Heard → Plan
 unfolding idleIn declaredRow initialRow docsAfter idsAfter initialIf declaredMembers
 declaredPlan b x v q =
-    let s : ℕ = q .own in
+    let s : ℕ = q .own .0 in
     idleIn (inside s (v .transition .0)) v
     ▷ onState (declaredRow s (initialIf b (v .ids)) (suc (docsAfter b (v .docs))) x)
     ▷ onTransition (initialRow b s v)
@@ -377,7 +377,7 @@ unfoldable pub asChild : ℕ → ℕ → Seen → Heard → Declared
 unfolding parentTo childMember
 asChild par fin v q =
     let p : ℕ = v .state .0 in
-    record { parent = parentTo p; parallel = par; ends = fin; history = 0; joins = childMember (v .joined) p (q .own) }
+    record { parent = parentTo p; parallel = par; ends = fin; history = 0; joins = childMember (v .joined) p (q .own .0) }
 
 unfoldable pub stateP : Seen → Heard → Planned
 unfolding declaredPlan asChild
@@ -405,7 +405,7 @@ historyP v q =
       parallel = 0;
       ends = 0;
       history = suc (q .history);
-      joins = historyMember (v .state .0) (q .own);
+      joins = historyMember (v .state .0) (q .own .0);
     }) v q)
 
 unfoldable pub bindingTo : Heard → ℕ
@@ -413,7 +413,7 @@ bindingTo q = elim (q .binds) [ true ↦ suc (q .binding) | false ↦ 0 ]
 
 -- The chart's row as scxml begins it.
 abbrev pub chartOf : Heard → ChartPlan
-chartOf q = record { at = 1; binding = bindingTo q; root = suc (q .own); script = 0 }
+chartOf q = record { at = 1; binding = bindingTo q; root = suc (q .own .0); script = 0 }
 
 unfoldable pub notChild : Declared
 notChild = record { parent = 0; parallel = 0; ends = 0; history = 0; joins = noMember }
@@ -459,13 +459,13 @@ unfolding declaredPlan declaredRow
 defaulted zero x v q = declaredPlan false x v q
 defaulted (suc f) x v q =
     let t : ℕ = suc (v .ids) in
-    declaredPlan false x v q ▷ onTransition (defaultRow t (q .own)) ▷ onState (declaredRow (q .own) (suc t) (suc (suc (v .docs))) x)
+    declaredPlan false x v q ▷ onTransition (defaultRow t (q .own .0)) ▷ onState (declaredRow (q .own .0) (suc t) (suc (suc (v .docs))) x)
     ▷ onMembers (record { words = noMember; owner = 0; skip = 1; one = x .joins; two = member (list .targets) t (suc f) }) ▷ onCounters (counting (v .current .0) t (suc (v .docs)))
 
 unfoldable pub bothDeclared : ChartPlan → Bool → Declared → Seen → Heard → Planned
 unfolding unlessZeroP declaredPlan defaulted
 bothDeclared ch b x v q =
-    unlessZeroP (q .own) (
+    unlessZeroP (q .own .0) (
     elim b [
       | true ↦ planned (declaredPlan true x v q ▷ onChart ch)
       | false ↦ elim (eqb (v .own .0) 0) [ true ↦ planned (defaulted (v .eldest .0) x v q ▷ onChart ch) | false ↦ planned (declaredPlan false x v q ▷ onChart ch) ]

@@ -233,7 +233,7 @@ pub struct Seen {
 pub struct Heard {
     pub kind: u32,
     pub tag: u32,
-    pub own: u32,
+    pub own: StateId,
     pub initial: bool,
     pub expr: bool,
     pub binds: bool,

@@ -20,7 +20,7 @@ use Rattle.plan.specs.declared.Declared.{Declared}
 pub record InUse (v : Seen) (q : Heard) (S T E I D R : ℕ) : Type 0 where
   pub state : v .state .0 ≤ S
   pub root : v .root .0 ≤ S
-  pub own : q .own ≤ S
+  pub own : q .own .0 ≤ S
   pub place : v .place ≤ T
   pub entry : v .entry ≤ E
   pub walk : v .walk .at ≤ E
@@ -264,7 +264,7 @@ module _ (v : Seen) (q : Heard) (S T E I D R : ℕ) (U : InUse v q S T E I D R) 
 
   both-declared : (c : ChartPlan) (b : Bool) (x : Declared) → c .at ≤ 1 → On (bothDeclared c b x v q)
   unfolding bothDeclared defaulted declaredPlan declaredRow idleIn
-  both-declared c b x h = on-unless (q .own) _ (either b _ _ (declared true x c h) (either (eqb (v .own .0) 0) _ _ (first (v .eldest .0)) (declared false x c h)))
+  both-declared c b x h = on-unless (q .own .0) _ (either b _ _ (declared true x c h) (either (eqb (v .own .0) 0) _ _ (first (v .eldest .0)) (declared false x c h)))
     where
       first : (f : ℕ) → On (planned (onChart c (defaulted f x v q)))
       first zero = declared false x c h
