@@ -7,6 +7,7 @@ use Rattle.plan.specs.declared.Plan.{Plan}
 use Rattle.plan.specs.declared.Seen.{Seen}
 use Rattle.plan.specs.declared.EntryPlan.{EntryPlan}
 use Rattle.plan.specs.declared.OpenRegionPlan.{OpenRegionPlan}
+use Rattle.plan.specs.Ids.{stateId, regionId}
 use Rattle.plan.specs.Plan.{onParameter}
 use Rattle.plan.specs.Plans.{begun}
 use Rattle.decision.specs.Told.{needing}
@@ -16,10 +17,10 @@ unfolding needing
 elseNeeds v = needing (v .closed .met) 2 (needing (v .walk .met) 14 0)
 
 abbrev pub elseifEntry : ℕ → ℕ → ℕ → EntryPlan
-elseifEntry at other content = record { kind = entryKind .if; region = other; state = 0; content = content; shape = 0; at = at; other = suc other; filled = 0 }
+elseifEntry at other content = record { kind = entryKind .if; region = regionId other; state = stateId 0; content = regionId content; shape = 0; at = at; other = suc other; filled = 0 }
 
 abbrev pub elseifOpen : Seen → ℕ → OpenRegionPlan
-elseifOpen v other = record { kept = v .closed .kept; region = v .closed .current .0; tag = tag .if; inner = other; by = tag .elseif }
+elseifOpen v other = record { kept = v .closed .kept; region = v .closed .current; tag = tag .if; inner = regionId other; by = tag .elseif }
 
 unfoldable pub parameterPlan : ℕ → ℕ → Seen → Plan
 unfolding begun

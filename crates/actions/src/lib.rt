@@ -232,7 +232,7 @@ fn elseif_open(v: Seen, other: RegionId) -> OpenRegionPlan
     ensures { λ r. ⌜ r ≡ elseifOpen v (other .0) ⌝ }
 {
     let mut open = one_more(v.closed.kept, v.closed.current, Tag::IF);
-    open.inner = other.0;
+    open.inner = other;
     open.by = Tag::ELSEIF;
     open
 }
@@ -245,7 +245,7 @@ pub fn start_elseif(v: Seen) -> Decision
     let other = next_region(v);
     let content = RegionId(other.0 + 1);
     let mut regions = one_region(other);
-    regions.two = content.0;
+    regions.two = content;
     let mut p = begun(v);
     p.regions = regions;
     p.entries = elseif_entry(v.walk.at, other, content);
@@ -261,9 +261,10 @@ pub fn invoke(v: Seen, q: Heard) -> Decision
     requires { ⌜ v .invokes < 65536 ⌝ }
     ensures { λ r. ⌜ told r ≡ invokeP v q ⌝ }
 {
+    let s = v.state;
     let mut row = no_invoke();
     row.added = 1;
-    row.state = v.state.0;
+    row.state = s;
     row.autoforward = q.forward;
     let mut p = begun(v);
     p.invokes = row;

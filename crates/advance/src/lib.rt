@@ -1,7 +1,6 @@
 // The reading position after an accepted event, by the position's own methods where one element opens or ends, or a name is drawn.
 use arena::Written;
 use definition::Position;
-use definition::RegionId;
 use definition::codes::Kind;
 use plan::ChartPlan;
 use plan::CounterPlan;
@@ -76,18 +75,19 @@ pub fn position_after(
     let states = w.states;
     let members = w.members;
     let used = w.used;
+    let current = q.counters.current;
     Position {
         opened: opened_after(kind, p),
         states: states as u32,
-        transitions: p.transitions + one(q.transitions.number),
-        regions: p.regions + one(q.regions.one) + one(q.regions.two),
+        transitions: p.transitions + one(q.transitions.number.0),
+        regions: p.regions + one(q.regions.one.0) + one(q.regions.two.0),
         entries: p.entries + one(q.entries.kind),
         invokes: p.invokes + one(q.invokes.added),
         datums: p.datums + one(q.datums.added),
         parameters: p.parameters + one(q.parameters.kind),
         members: members as u32 + one(q.members.one.list) + one(q.members.two.list),
         open_regions: q.pending.kept + one(q.pending.tag) + one(q.pending.by),
-        current: RegionId(q.counters.current),
+        current: current,
         ids: q.counters.ids,
         docs: q.counters.docs,
         names: names_after(made, p),

@@ -29,11 +29,11 @@ listed l p used ms = targetsAfter l (p .members .owner) (p .members .skip) (word
 pub record Fits (l : Look) (p : Plan) (n : Position) (m count used pending : ℕ) (a b c d e f i j ms o q r : Table) : Type 0 where
   pub placed : Placed (l .fields)
   pub chart : (1 ≤ length a) × (p .chart .at ≤ 1)
-  pub states : (count ≤ length b) × (p .states .at ≤ count)
+  pub states : (count ≤ length b) × (p .states .at .0 ≤ count)
   pub state-texts : (k : ℕ) → p .states .texts ≡ suc k → isWords (l .tag) k ≡ false
-  pub transitions : (n .transitions + oneUnless (p .transitions .number) ≤ length c) × (p .transitions .at ≤ n .transitions + oneUnless (p .transitions .number))
+  pub transitions : (n .transitions + oneUnless (p .transitions .number .0) ≤ length c) × (p .transitions .at ≤ n .transitions + oneUnless (p .transitions .number .0))
   pub transition-texts : (k : ℕ) → p .transitions .texts ≡ suc k → isWords (l .tag) k ≡ false
-  pub regions : n .regions + oneUnless (p .regions .one) + oneUnless (p .regions .two) ≤ length d
+  pub regions : n .regions + oneUnless (p .regions .one .0) + oneUnless (p .regions .two .0) ≤ length d
   pub entries : (n .entries + oneUnless (p .entries .kind) ≤ length e) × (p .entries .at ≤ n .entries + oneUnless (p .entries .kind))
   pub entry-texts : isWords (l .tag) (p .entries .shape) ≡ false
   pub invokes : (n .invokes + oneUnless (p .invokes .added) ≤ length f) × (p .invokes .at ≤ n .invokes + oneUnless (p .invokes .added))

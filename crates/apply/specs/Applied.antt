@@ -39,7 +39,7 @@ rowsOf p m =
 unfoldable pub appliedIn : List ℕ → ℕ → ℕ → ℕ → Row → Position → Plan → Table → Table → Table → Table → Table → Table → Table → Table → Table → Table → Table → Table → List Table
 appliedIn t g m s name n p a b c d e f i j k o q r =
     alterRow (p .chart .at) (chartRow t g (p .chart)) a
-    ∷ alterRow (p .states .at) (stateRowBy t g (p .states)) b
+    ∷ alterRow (p .states .at .0) (stateRowBy t g (p .states)) b
     ∷ transitionsIn t g (p .transitions) (n .transitions) c
     ∷ regionsIn (p .regions) (n .regions) d
     ∷ entriesIn t g (p .entries) (n .entries) e

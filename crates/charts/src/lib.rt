@@ -22,28 +22,28 @@ fn transition_row(p: TransitionPlan, tag: u32, t: &[u32]) -> [u32; 8]
     ensures { λ r. ⌜ r ≡ newTransition (now (t .entry)) tag p ⌝ }
 {
     let mut row = [0u32; 8];
-    row[TransitionColumn::NUMBER] = p.number;
+    row[TransitionColumn::NUMBER] = p.number.0;
     row[TransitionColumn::DOC] = p.doc;
-    row[TransitionColumn::SOURCE] = p.source;
+    row[TransitionColumn::SOURCE] = p.source.0;
     row[TransitionColumn::TYPE] = p.mode;
     row[TransitionColumn::WILDCARD] = p.wildcard;
-    row[TransitionColumn::CONTENT] = p.content;
+    row[TransitionColumn::CONTENT] = p.content.0;
     fill_plus(&mut row, tag, p.texts, t);
     row
 }
 
 fn transition_changed(old: [u32; 8], p: TransitionPlan) -> [u32; 8]
-    ensures { λ r. ⌜ r ≡ set old 5 (p .region) ⌝ }
+    ensures { λ r. ⌜ r ≡ set old 5 (p .region .0) ⌝ }
 {
     let mut row = old;
-    row[TransitionColumn::CONTENT] = p.region;
+    row[TransitionColumn::CONTENT] = p.region.0;
     row
 }
 
 fn add_transition(transitions: &mut [[u32; 8]], n: usize, p: TransitionPlan, tag: u32, t: &[u32])
-    ensures { λ _. ⌜ now (transitions .exit) ≡ setUnless (p .number) (now (transitions .entry)) n (newTransition (now (t .entry)) tag p) ⌝ }
+    ensures { λ _. ⌜ now (transitions .exit) ≡ setUnless (p .number .0) (now (transitions .entry)) n (newTransition (now (t .entry)) tag p) ⌝ }
 {
-    if p.number == 0 {
+    if p.number.0 == 0 {
         return;
     }
     let row = transition_row(p, tag, t);
@@ -101,12 +101,12 @@ fn state_changed(old: [u32; 24], p: StatePlan, tag: u32, t: &[u32]) -> [u32; 24]
 }
 
 pub fn change_states(states: &mut [[u32; 24]], p: StatePlan, tag: u32, t: &[u32])
-    ensures { λ _. ⌜ now (states .exit) ≡ alterRow (p .at) (stateRowBy (now (t .entry)) tag p) (now (states .entry)) ⌝ }
+    ensures { λ _. ⌜ now (states .exit) ≡ alterRow (p .at .0) (stateRowBy (now (t .entry)) tag p) (now (states .entry)) ⌝ }
 {
-    if p.at == 0 {
+    if p.at.0 == 0 {
         return;
     }
-    let i = index(p.at - 1);
+    let i = index(p.at.0 - 1);
     if i < states.len() {
         let old = states[i];
         let row = state_changed(old, p, tag, t);

@@ -90,5 +90,5 @@ counted L s l made p h g =
     && (leb (p .counters .ids) (L .drawn) && leb (p .counters .docs) (L .drawn) && leb (s .numbers .names + x) (L .drawn) && leb (s .numbers .charge + l .charge) (L .charge))) g
     ∙ ap (λ (x : Bool). x
     && (leb (p .counters .ids) (L .drawn) && leb (p .counters .docs) (L .drawn) && leb (s .numbers .names + l .generated) (L .drawn) && leb (s .numbers .charge + l .charge) (L .charge))) (
-    ap (λ (x : ℕ). leb (length (tableOf (s .numbers) 1) + length (drop (length (tableOf (s .numbers) 1)) (l .known))) (L .states) && leb (length (tableOf (s .numbers) 2) + oneUnless (p .transitions .number)) (L .transitions) && leb (length (tableOf (s .numbers) 3) + oneUnless (p .regions .one) + oneUnless (p .regions .two)) (L .regions) && leb (length (tableOf (s .numbers) 4) + oneUnless (p .entries .kind)) (L .entries) && leb (length (tableOf (s .numbers) 5) + oneUnless (p .invokes .added)) (L .invokes) && leb (length (tableOf (s .numbers) 6) + oneUnless (p .datums .added)) (L .datums) && leb (length (tableOf (s .numbers) 7) + oneUnless (p .parameters .kind)) (L .parameters) && leb (length (tableOf (s .numbers) 8) + x) (L .members)) (members-counted l (p .members))
-    ∙ nine (length (tableOf (s .numbers) 0)) (length (tableOf (s .numbers) 1) + length (drop (length (tableOf (s .numbers) 1)) (l .known))) (length (tableOf (s .numbers) 2) + oneUnless (p .transitions .number)) (length (tableOf (s .numbers) 3) + oneUnless (p .regions .one) + oneUnless (p .regions .two)) (length (tableOf (s .numbers) 4) + oneUnless (p .entries .kind)) (length (tableOf (s .numbers) 5) + oneUnless (p .invokes .added)) (length (tableOf (s .numbers) 6) + oneUnless (p .datums .added)) (length (tableOf (s .numbers) 7) + oneUnless (p .parameters .kind)) (length (tableOf (s .numbers) 8) + membersAdded l (p .members)) (L .states) (L .transitions) (L .regions) (L .entries) (L .invokes) (L .datums) (L .parameters) (L .members) h)
+    ap (λ (x : ℕ). leb (length (tableOf (s .numbers) 1) + length (drop (length (tableOf (s .numbers) 1)) (l .known))) (L .states) && leb (length (tableOf (s .numbers) 2) + oneUnless (p .transitions .number .0)) (L .transitions) && leb (length (tableOf (s .numbers) 3) + oneUnless (p .regions .one .0) + oneUnless (p .regions .two .0)) (L .regions) && leb (length (tableOf (s .numbers) 4) + oneUnless (p .entries .kind)) (L .entries) && leb (length (tableOf (s .numbers) 5) + oneUnless (p .invokes .added)) (L .invokes) && leb (length (tableOf (s .numbers) 6) + oneUnless (p .datums .added)) (L .datums) && leb (length (tableOf (s .numbers) 7) + oneUnless (p .parameters .kind)) (L .parameters) && leb (length (tableOf (s .numbers) 8) + x) (L .members)) (members-counted l (p .members))
+    ∙ nine (length (tableOf (s .numbers) 0)) (length (tableOf (s .numbers) 1) + length (drop (length (tableOf (s .numbers) 1)) (l .known))) (length (tableOf (s .numbers) 2) + oneUnless (p .transitions .number .0)) (length (tableOf (s .numbers) 3) + oneUnless (p .regions .one .0) + oneUnless (p .regions .two .0)) (length (tableOf (s .numbers) 4) + oneUnless (p .entries .kind)) (length (tableOf (s .numbers) 5) + oneUnless (p .invokes .added)) (length (tableOf (s .numbers) 6) + oneUnless (p .datums .added)) (length (tableOf (s .numbers) 7) + oneUnless (p .parameters .kind)) (length (tableOf (s .numbers) 8) + membersAdded l (p .members)) (L .states) (L .transitions) (L .regions) (L .entries) (L .invokes) (L .datums) (L .parameters) (L .members) h)

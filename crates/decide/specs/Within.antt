@@ -17,8 +17,8 @@ unfoldable pub rowsWithin : Limits → Position → ℕ → ℕ → Plan → Boo
 unfolding oneUnless membersMore
 rowsWithin L n refs new p =
     leb (n .states + new) (L .states)
-    && leb (n .transitions + oneUnless (p .transitions .number)) (L .transitions)
-    && leb (n .regions + oneUnless (p .regions .one) + oneUnless (p .regions .two)) (L .regions)
+    && leb (n .transitions + oneUnless (p .transitions .number .0)) (L .transitions)
+    && leb (n .regions + oneUnless (p .regions .one .0) + oneUnless (p .regions .two .0)) (L .regions)
     && leb (n .entries + oneUnless (p .entries .kind)) (L .entries)
     && leb (n .invokes + oneUnless (p .invokes .added)) (L .invokes)
     && leb (n .datums + oneUnless (p .datums .added)) (L .datums)

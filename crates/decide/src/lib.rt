@@ -201,10 +201,10 @@ fn rows_within(n: Position, refs: u32, new: u32, p: Plan) -> bool
     ensures { λ r. ⌜ r ≡ rowsWithin limits01 n refs new p ⌝ }
 {
     let members = n.members + members_more(p.members, refs);
-    let regions = n.regions + one_unless(p.regions.one);
+    let regions = n.regions + one_unless(p.regions.one.0);
     (n.states + new <= Chart::STATES)
-        & has_room(n.transitions, p.transitions.number, Chart::TRANSITIONS)
-        & has_room(regions, p.regions.two, Chart::REGIONS)
+        & has_room(n.transitions, p.transitions.number.0, Chart::TRANSITIONS)
+        & has_room(regions, p.regions.two.0, Chart::REGIONS)
         & has_room(n.entries, p.entries.kind, Chart::ENTRIES)
         & has_room(n.invokes, p.invokes.added, Chart::INVOKES)
         & has_room(n.datums, p.datums.added, Chart::DATA)

@@ -74,7 +74,7 @@ pub fn no_state() -> StatePlan
     ensures { λ r. ⌜ r ≡ noState ⌝ }
 {
     StatePlan {
-        at: 0,
+        at: StateId(0),
         texts: 0,
         initial: 0,
         doc: 0,
@@ -91,15 +91,15 @@ pub fn no_transition() -> TransitionPlan
     ensures { λ r. ⌜ r ≡ noTransition ⌝ }
 {
     TransitionPlan {
-        number: 0,
+        number: TransitionId(0),
         doc: 0,
-        source: 0,
+        source: StateId(0),
         mode: 0,
         wildcard: 0,
-        content: 0,
+        content: RegionId(0),
         texts: 0,
         at: 0,
-        region: 0,
+        region: RegionId(0),
     }
 }
 
@@ -108,9 +108,9 @@ pub fn no_entry() -> EntryPlan
 {
     EntryPlan {
         kind: 0,
-        region: 0,
-        state: 0,
-        content: 0,
+        region: RegionId(0),
+        state: StateId(0),
+        content: RegionId(0),
         shape: 0,
         at: 0,
         other: 0,
@@ -123,7 +123,7 @@ pub fn no_invoke() -> InvokePlan
 {
     InvokePlan {
         added: 0,
-        state: 0,
+        state: StateId(0),
         autoforward: 0,
         at: 0,
         finalize: 0,
@@ -160,15 +160,18 @@ pub fn inside(s: StateId, t: TransitionId) -> OpenPlan
     ensures { λ r. ⌜ r ≡ inside (s .0) (t .0) ⌝ }
 {
     OpenPlan {
-        state: s.0,
-        transition: t.0,
+        state: s,
+        transition: t,
     }
 }
 
 pub fn one_region(r: RegionId) -> RegionPlan
     ensures { λ p. ⌜ p ≡ oneRegion (r .0) ⌝ }
 {
-    RegionPlan { one: r.0, two: 0 }
+    RegionPlan {
+        one: r,
+        two: RegionId(0),
+    }
 }
 
 /// So many of the open regions stay, and no other comes.
@@ -177,9 +180,9 @@ pub fn keeping(kept: u32) -> OpenRegionPlan
 {
     OpenRegionPlan {
         kept: kept,
-        region: 0,
+        region: RegionId(0),
         tag: 0,
-        inner: 0,
+        inner: RegionId(0),
         by: 0,
     }
 }
@@ -190,9 +193,9 @@ pub fn one_more(kept: u32, region: RegionId, tag: u32) -> OpenRegionPlan
 {
     OpenRegionPlan {
         kept: kept,
-        region: region.0,
+        region: region,
         tag: tag,
-        inner: 0,
+        inner: RegionId(0),
         by: 0,
     }
 }
@@ -201,7 +204,7 @@ pub fn counting(current: RegionId, ids: u32, docs: u32) -> CounterPlan
     ensures { λ r. ⌜ r ≡ counting (current .0) ids docs ⌝ }
 {
     CounterPlan {
-        current: current.0,
+        current: current,
         ids: ids,
         docs: docs,
     }
@@ -229,7 +232,7 @@ pub fn idle_in(opened: OpenPlan, v: Seen) -> Plan
 {
     let datums = DatumPlan {
         added: 0,
-        state: 0,
+        state: StateId(0),
         at: 0,
         shape: 0,
     };
@@ -284,9 +287,9 @@ pub fn new_entry(
 {
     EntryPlan {
         kind: kind,
-        region: region.0,
-        state: state.0,
-        content: content.0,
+        region: region,
+        state: state,
+        content: content,
         shape: shape,
         at: 0,
         other: 0,
@@ -317,7 +320,7 @@ pub fn initial_to(s: StateId, t: TransitionId) -> StatePlan
     ensures { λ r. ⌜ r ≡ initialTo (s .0) (t .0) ⌝ }
 {
     let mut row = no_state();
-    row.at = s.0;
+    row.at = s;
     row.initial = t.0 + 1;
     row
 }
@@ -327,7 +330,7 @@ pub fn state_to(s: StateId, texts: u32, donedata: u32, filled: u32) -> StatePlan
     ensures { λ r. ⌜ r ≡ stateTo (s .0) texts donedata filled ⌝ }
 {
     let mut row = no_state();
-    row.at = s.0;
+    row.at = s;
     row.texts = texts;
     row.donedata = donedata;
     row.filled = filled;

@@ -103,14 +103,14 @@ module _ (l : Look) (placed : Placed (l .fields)) where
   unfolding chartIn chartAfter chartRow
   chart-clean p rs b c = one-clean 1 (p .at) _ _ rs (λ x. ap (put 1 (p .script)) (root-same (p .root) (put 2 (p .binding) x))) b c
 
-  pub states-clean : (p : StatePlan) (n : ℕ) (rs : Table) → ((k : ℕ) → p .texts ≡ suc k → isWords g k ≡ false) → n ≤ length rs → p .at ≤ n → statesIn t g p rs ≡ over (statesAfter l p (take n rs)) rs
+  pub states-clean : (p : StatePlan) (n : ℕ) (rs : Table) → ((k : ℕ) → p .texts ≡ suc k → isWords g k ≡ false) → n ≤ length rs → p .at .0 ≤ n → statesIn t g p rs ≡ over (statesAfter l p (take n rs)) rs
   unfolding statesIn statesAfter stateRowBy
-  states-clean p n rs w b c = one-clean n (p .at) _ _ rs (λ x. ap (stateColumnsAfter p) (shape-if-same (p .texts) x w)) b c
+  states-clean p n rs w b c = one-clean n (p .at .0) _ _ rs (λ x. ap (stateColumnsAfter p) (shape-if-same (p .texts) x w)) b c
 
-  pub transitions-clean : (p : TransitionPlan) (n : ℕ) (rs : Table) → ((k : ℕ) → p .texts ≡ suc k → isWords g k ≡ false) → n + oneUnless (p .number) ≤ length rs → p .at ≤ n + oneUnless (p .number)
+  pub transitions-clean : (p : TransitionPlan) (n : ℕ) (rs : Table) → ((k : ℕ) → p .texts ≡ suc k → isWords g k ≡ false) → n + oneUnless (p .number .0) ≤ length rs → p .at ≤ n + oneUnless (p .number .0)
       → transitionsIn t g p n rs ≡ over (transitionsAfter l p (take n rs)) rs
   unfolding transitionsIn transitionsAfter newTransition oldTransition transitionRow
-  transitions-clean p n rs w b c = both-clean (p .number) n (p .at) _ _ _ _ rs (shape-if-same (p .texts) _ w) (λ x. refl) b c
+  transitions-clean p n rs w b c = both-clean (p .number .0) n (p .at) _ _ _ _ rs (shape-if-same (p .texts) _ w) (λ x. refl) b c
 
   pub entries-clean : (p : EntryPlan) (n : ℕ) (rs : Table) → isWords g (p .shape) ≡ false → n + oneUnless (p .kind) ≤ length rs → p .at ≤ n + oneUnless (p .kind)
       → entriesIn t g p n rs ≡ over (entriesAfter l p (take n rs)) rs

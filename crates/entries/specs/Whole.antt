@@ -39,25 +39,25 @@ unfoldable pub stateRowBy : List ℕ → ℕ → StatePlan → Row → Row
 stateRowBy t g p r = stateColumnsAfter p (shapedIfBy t g (p .texts) r)
 
 unfoldable pub newTransition : List ℕ → ℕ → TransitionPlan → Row
-newTransition t g p = shapedIfBy t g (p .texts) (p .number ∷ p .doc ∷ p .source ∷ p .mode ∷ p .wildcard ∷ p .content ∷ 0 ∷ 0 ∷ [])
+newTransition t g p = shapedIfBy t g (p .texts) (p .number .0 ∷ p .doc ∷ p .source .0 ∷ p .mode ∷ p .wildcard ∷ p .content .0 ∷ 0 ∷ 0 ∷ [])
 
 unfoldable pub oldTransition : TransitionPlan → Row → Row
-oldTransition p r = set r 5 (p .region)
+oldTransition p r = set r 5 (p .region .0)
 
 unfoldable pub newEntry : List ℕ → ℕ → EntryPlan → Row
-newEntry t g p = shapedBy t g (p .shape) (p .region ∷ p .kind ∷ p .state ∷ p .content ∷ replicate 44 0)
+newEntry t g p = shapedBy t g (p .shape) (p .region .0 ∷ p .kind ∷ p .state .0 ∷ p .content .0 ∷ replicate 44 0)
 
 unfoldable pub oldEntry : List ℕ → ℕ → EntryPlan → Row → Row
 oldEntry t g p r = recordedBy t g 0 5 (p .filled) (put 4 (p .other) r)
 
 unfoldable pub newInvoke : List ℕ → ℕ → InvokePlan → Row
-newInvoke t g p = shapedBy t g 0 (p .state ∷ p .autoforward ∷ replicate 22 0)
+newInvoke t g p = shapedBy t g 0 (p .state .0 ∷ p .autoforward ∷ replicate 22 0)
 
 unfoldable pub oldInvoke : List ℕ → ℕ → InvokePlan → Row → Row
 oldInvoke t g p r = recordedBy t g 1 3 (p .filled) (put 2 (p .finalize) r)
 
 unfoldable pub newDatum : List ℕ → ℕ → DatumPlan → Row
-newDatum t g p = shapedBy t g (p .shape) (p .state ∷ replicate 7 0)
+newDatum t g p = shapedBy t g (p .shape) (p .state .0 ∷ replicate 7 0)
 
 unfoldable pub oldDatum : List ℕ → ℕ → DatumPlan → Row → Row
 oldDatum t g p r = shapedBy t g (p .shape) r
@@ -68,7 +68,7 @@ newParameter t g p = shapedBy t g 0 (p .kind ∷ p .owner ∷ replicate 6 0)
 -- ---- tables
 
 unfoldable pub transitionsIn : List ℕ → ℕ → TransitionPlan → ℕ → Table → Table
-transitionsIn t g p n rs = alterRow (p .at) (oldTransition p) (setUnless (p .number) rs n (newTransition t g p))
+transitionsIn t g p n rs = alterRow (p .at) (oldTransition p) (setUnless (p .number .0) rs n (newTransition t g p))
 
 unfoldable pub entriesIn : List ℕ → ℕ → EntryPlan → ℕ → Table → Table
 entriesIn t g p n rs = alterRow (p .at) (oldEntry t g p) (setUnless (p .kind) rs n (newEntry t g p))
@@ -83,7 +83,7 @@ unfoldable pub parametersIn : List ℕ → ℕ → ParameterPlan → ℕ → Tab
 parametersIn t g p n rs = setUnless (p .kind) rs n (newParameter t g p)
 
 unfoldable pub statesIn : List ℕ → ℕ → StatePlan → Table → Table
-statesIn t g p rs = alterRow (p .at) (stateRowBy t g p) rs
+statesIn t g p rs = alterRow (p .at .0) (stateRowBy t g p) rs
 
 unfoldable pub chartIn : List ℕ → ℕ → ChartPlan → Table → Table
 chartIn t g p rs = alterRow (p .at) (chartRow t g p) rs

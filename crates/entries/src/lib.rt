@@ -54,10 +54,10 @@ fn entry_row(p: EntryPlan, tag: u32, t: &[u32]) -> [u32; 48]
     ensures { λ r. ⌜ r ≡ newEntry (now (t .entry)) tag p ⌝ }
 {
     let mut row = [0u32; 48];
-    row[EntryColumn::REGION] = p.region;
+    row[EntryColumn::REGION] = p.region.0;
     row[EntryColumn::KIND] = p.kind;
-    row[EntryColumn::STATE] = p.state;
-    row[EntryColumn::CONTENT] = p.content;
+    row[EntryColumn::STATE] = p.state.0;
+    row[EntryColumn::CONTENT] = p.content.0;
     fill(&mut row, tag, p.shape, t);
     row
 }
@@ -114,7 +114,7 @@ fn invoke_row(p: InvokePlan, tag: u32, t: &[u32]) -> [u32; 24]
     ensures { λ r. ⌜ r ≡ newInvoke (now (t .entry)) tag p ⌝ }
 {
     let mut row = [0u32; 24];
-    row[InvokeColumn::STATE] = p.state;
+    row[InvokeColumn::STATE] = p.state.0;
     row[InvokeColumn::AUTOFORWARD] = p.autoforward;
     fill(&mut row, tag, Shape::PLAIN, t);
     row
@@ -172,7 +172,7 @@ fn datum_row(p: DatumPlan, tag: u32, t: &[u32]) -> [u32; 8]
     ensures { λ r. ⌜ r ≡ newDatum (now (t .entry)) tag p ⌝ }
 {
     let mut row = [0u32; 8];
-    row[DatumColumn::STATE] = p.state;
+    row[DatumColumn::STATE] = p.state.0;
     fill(&mut row, tag, p.shape, t);
     row
 }

@@ -20,6 +20,7 @@ use Rattle.plain.specs.Plain.{slotsOf, loadsIn, parsedIn}
 use Rattle.plain.specs.Keyed.{indexOf, isMarked, valueIn}
 use Rattle.plain.proofs.ValueLaws.{marked-has}
 use Rattle.plan.specs.declared.Heard.{Heard}
+use Rattle.plan.specs.Ids.{stateId}
 use Rattle.heard.specs.Heard.{orElse, codeIn, wordsIn, heardIn, bareOf}
 
 -- ---- codes
@@ -161,7 +162,7 @@ module _ (src : List ℕ) (p : Plain) (ix : List ℕ) (e : ix ≡ indexOf (slots
   code-in d g k low b eb v ev c ec r er =
       er ∙ ap₂ (λ (x : Bool) (y : ℕ). orElse x y d) (there k low b eb) (ec ∙ ap (codeOf g k) ev)
 
-  pub heard-is : (own found : ℕ) (h : Heard) → h .kind ≡ p .kind → h .tag ≡ p .tag → h .own ≡ own → h .initial ≡ hasLoad 2 vs → h .expr ≡ hasLoad 19 vs → h .binds ≡ hasLoad 5 vs → h .binding ≡ codeIn 0 (p .tag) 5 vs
+  pub heard-is : (own found : ℕ) (h : Heard) → h .kind ≡ p .kind → h .tag ≡ p .tag → h .own .0 ≡ own → h .initial ≡ hasLoad 2 vs → h .expr ≡ hasLoad 19 vs → h .binds ≡ hasLoad 5 vs → h .binding ≡ codeIn 0 (p .tag) 5 vs
       → h .mode ≡ typeOf (codeIn 0 (p .tag) 7 vs) → h .history ≡ codeIn 1 (p .tag) 7 vs → h .wildcard ≡ codeOf (p .tag) 14 (valueIn 14 vs) → h .forward ≡ codeOf (p .tag) 13 (valueIn 13 vs)
       → h .events ≡ wordsIn (p .tag) 14 vs → h .names ≡ wordsIn (p .tag) 12 vs → h .found ≡ found → h ≡ heardIn own found (parsedIn src p)
   unfolding heardIn parsedIn
@@ -170,7 +171,7 @@ module _ (src : List ℕ) (p : Plain) (ix : List ℕ) (e : ix ≡ indexOf (slots
       record {
         kind = a i;
         tag = b i;
-        own = c i;
+        own = stateId (c i);
         initial = d i;
         expr = f i;
         binds = g i;
@@ -190,14 +191,14 @@ words-in g k is v e r h = h ∙ ap (λ (x : List ℕ). length (wordSpans g k x))
 
 -- ---- an event without values
 
-pub bare-is : (k g own found : ℕ) → record { kind = k; tag = g; own = own; initial = false; expr = false; binds = false; binding = 0; mode = 0; history = 1; wildcard = 0; forward = 0; events = 0; names = 0; found = found } ≡ heardIn own found (bareOf k g)
+pub bare-is : (k g own found : ℕ) → record { kind = k; tag = g; own = stateId own; initial = false; expr = false; binds = false; binding = 0; mode = 0; history = 1; wildcard = 0; forward = 0; events = 0; names = 0; found = found } ≡ heardIn own found (bareOf k g)
 unfolding heardIn bareOf hasLoad valueIn codeIn orElse wordsIn typeOf
 bare-is k g own found =
     λ i.
     record {
       kind = k;
       tag = g;
-      own = own;
+      own = stateId own;
       initial = false;
       expr = false;
       binds = false;

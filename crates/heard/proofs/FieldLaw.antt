@@ -22,6 +22,7 @@ use Rattle.plain.proofs.ValueLaws.{value-here, value-past, offset-here, offset-
 use Rattle.plain.proofs.LoadLaw.{Own, other, own-has, own-value}
 use Rattle.plain.specs.Plain.{parsedOf}
 use Rattle.plan.specs.Heard.{heard}
+use Rattle.plan.specs.Ids.{stateId}
 use Rattle.heard.proofs.CodeLaws.{events-empty, names-empty, wildcard-empty, forward-empty}
 use Rattle.heard.specs.Heard.{orElse, codeIn, wordsIn, heardIn}
 
@@ -152,7 +153,7 @@ module _ (s : Store) (e : Event) where
       record {
         kind = e .kind;
         tag = tagged;
-        own = eo i;
+        own = stateId (eo i);
         initial = sym (has-law 2 (other refl refl refl)) i;
         expr = sym (has-law 19 (other refl refl refl)) i;
         binds = sym (has-law 5 (other refl refl refl)) i;

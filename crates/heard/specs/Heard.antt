@@ -10,6 +10,7 @@ use Rattle.definition.specs.Actions.{typeOf}
 use Rattle.plain.specs.Plain.{Parsed}
 use Rattle.plain.specs.Keyed.{valueIn}
 use Rattle.plan.specs.declared.Heard.{Heard}
+use Rattle.plan.specs.Ids.{stateId}
 
 unfoldable pub orElse : Bool → ℕ → ℕ → ℕ
 orElse true x d = x
@@ -30,7 +31,7 @@ heardIn own found v =
     record {
       kind = v .kind;
       tag = v .tag;
-      own = own;
+      own = stateId own;
       initial = hasLoad (key .initial) (v .values);
       expr = hasLoad (key .expr) (v .values);
       binds = hasLoad (key .binding) (v .values);

@@ -1,5 +1,6 @@
 // What an event says, as numbers: all that a plan needs of it; the questions 5 to 12; the rows that it finds.
 use definition::Chart;
+use definition::StateId;
 use definition::cells::DatumColumn;
 use definition::cells::OpenColumn;
 use definition::codes::Key;
@@ -157,8 +158,8 @@ fn names_of(tag: u32, v: &[u8]) -> u32
 }
 
 // Of an event without attributes, as every end is: no key is there.
-fn bare(kind: u32, tag: u32, own: u32, found: u32) -> Heard
-    ensures { λ r. ⌜ r ≡ heardIn own found (bareOf kind tag) ⌝ }
+fn bare(kind: u32, tag: u32, own: StateId, found: u32) -> Heard
+    ensures { λ r. ⌜ r ≡ heardIn (own .0) found (bareOf kind tag) ⌝ }
 {
     Heard {
         kind: kind,
@@ -178,9 +179,9 @@ fn bare(kind: u32, tag: u32, own: u32, found: u32) -> Heard
     }
 }
 
-pub fn heard(src: &[u8], p: Plain, ix: [u8; Plain::KEYS], own: u32, found: u32) -> Heard
+pub fn heard(src: &[u8], p: Plain, ix: [u8; Plain::KEYS], own: StateId, found: u32) -> Heard
     requires { ⌜ ix ≡ indexOf (slotsOf p) ⌝ }
-    ensures { λ r. ⌜ r ≡ heardIn own found (parsedIn (now (src .entry)) p) ⌝ }
+    ensures { λ r. ⌜ r ≡ heardIn (own .0) found (parsedIn (now (src .entry)) p) ⌝ }
 {
     let tag = p.tag;
     if p.count == 0 {

@@ -1,5 +1,6 @@
 // Stage 1: all that is read of an event's text and of the tables by name, as numbers. The slices are the parts in use.
 use definition::Position;
+use definition::StateId;
 use definition::cells::ChartColumn;
 use definition::cells::OpenColumn;
 use heard::ask;
@@ -77,7 +78,7 @@ pub fn look(
     let n = look_names(states, text, src, p, ix, drawn);
     let f = found(datums, text, inside(opened, OpenColumn::STATE), src, p, ix);
     let own = n.own;
-    let h = heard(src, p, ix, own as u32, f as u32);
+    let h = heard(src, p, ix, StateId(own as u32), f as u32);
     let q = ask(src, p, ix);
     let inner = is_innermost(opened, open_names, p.tag, bytes_of(src, p.name));
     let parent = inside(opened, OpenColumn::TAG);

@@ -14,6 +14,7 @@ use Rattle.definition.specs.Change.{_≔_, shape, adding, altering, Outcome, do
 use Rattle.definition.specs.States.{valueShape, startInitial, startDonedata, startData}
 use Rattle.definition.specs.Actions.{startInvoke, byParent, newParameter, ofLastSend, ofLastInvoke, ofDonedata, startParam, sendContent, contentOfSend, startContent, lastEntry, lastInvoke}
 use Rattle.definition.specs.Reader.{onDone, started}
+use Rattle.plan.specs.Ids.{stateId}
 use Rattle.plan.specs.Plan.{onDatum, Planned, planned, refused}
 use Rattle.plan.specs.After.{verdictOf}
 use Rattle.plan.specs.declared.Seen.{Seen}
@@ -68,12 +69,12 @@ module _ (T : Tables) (c i d a e k : ℕ) (l₀ : Look) where
   abbrev as-shape : Bool → ℕ
   as-shape b = elim b [ true ↦ 0 | false ↦ 1 ]
 
-  datum-added : (b : Bool) → Meets 0 (el 9) n (toOpen (el 9) n) (done (adding (shape (as-shape b)) (datum .state ≔ currentState n ∷ []) (nothing n))) (planned (onDatum (record { added = 1; state = currentState n; at = 0; shape = as-shape b }) (begun (see 9))))
+  datum-added : (b : Bool) → Meets 0 (el 9) n (toOpen (el 9) n) (done (adding (shape (as-shape b)) (datum .state ≔ currentState n ∷ []) (nothing n))) (planned (onDatum (record { added = 1; state = stateId (currentState n); at = 0; shape = as-shape b }) (begun (see 9))))
   unfolding seen heard started verdictOf begun
   datum-added true = rw (reverse-reverse rs, take-length rs)
   datum-added false = rw (reverse-reverse rs, take-length rs)
 
-  datum-altered : (b : Bool) → Meets 0 (el 9) n (toOpen (el 9) n) (done (altering (shape (as-shape b)) (l₀ .found) [] (nothing n))) (planned (onDatum (record { added = 0; state = 0; at = l₀ .found; shape = as-shape b }) (begun (see 9))))
+  datum-altered : (b : Bool) → Meets 0 (el 9) n (toOpen (el 9) n) (done (altering (shape (as-shape b)) (l₀ .found) [] (nothing n))) (planned (onDatum (record { added = 0; state = stateId 0; at = l₀ .found; shape = as-shape b }) (begun (see 9))))
   unfolding seen heard started verdictOf begun
   datum-altered true = rw (reverse-reverse rs, take-length rs)
   datum-altered false = rw (reverse-reverse rs, take-length rs)

@@ -13,7 +13,8 @@ use Rattle.definition.specs.States.{ownState}
 use Rattle.definition.specs.Actions.{lastEntry, Walk, meets, noIf, elseWalk, walkFrom}
 use Rattle.plan.specs.declared.Seen.{Seen}
 use Rattle.plan.specs.declared.Closing.{Closing}
-use Rattle.plan.specs.Seen.{transitionId, walkedAs, walkIn, seen}
+use Rattle.plan.specs.Ids.{transitionId}
+use Rattle.plan.specs.Seen.{walkedAs, walkIn, seen}
 use Rattle.plan.specs.Heard.{heard}
 use Rattle.plan.specs.Plans.{planBy, planOf}
 use Rattle.plan.proofs.Base.{Tables, full, tablesOf}

@@ -113,16 +113,16 @@ module _ (L : Limits) (l : Look) (p : Plan) (n : Numbers) (m : ℕ) (e : length 
   pub states-count : length (statesAfter l (p .states) (tableOf (entered l n) 1)) ≡ old 1 + length (drop (old 1) (l .known))
   unfolding statesAfter
   states-count =
-      alter-length (p .states .at) _ (tableOf (entered l n) 1) ∙ ap length states-entered ∙ length-append (tableOf n 1) (map stateRow (drop (old 1) (l .known))) ∙ ap (λ (z : ℕ). old 1 + z) (length-map (drop (old 1) (l .known)) stateRow)
+      alter-length (p .states .at .0) _ (tableOf (entered l n) 1) ∙ ap length states-entered ∙ length-append (tableOf n 1) (map stateRow (drop (old 1) (l .known))) ∙ ap (λ (z : ℕ). old 1 + z) (length-map (drop (old 1) (l .known)) stateRow)
 
-  pub transitions-count : length (transitionsAfter l (p .transitions) (tableOf (entered l n) 2)) ≡ old 2 + oneUnless (p .transitions .number)
+  pub transitions-count : length (transitionsAfter l (p .transitions) (tableOf (entered l n) 2)) ≡ old 2 + oneUnless (p .transitions .number .0)
   unfolding transitionsAfter
-  transitions-count = alter-length (p .transitions .at) _ _ ∙ added-length (p .transitions .number) _ (tableOf (entered l n) 2) ∙ ap (λ (z : ℕ). z + oneUnless (p .transitions .number)) (same 2 (omega arith))
+  transitions-count = alter-length (p .transitions .at) _ _ ∙ added-length (p .transitions .number .0) _ (tableOf (entered l n) 2) ∙ ap (λ (z : ℕ). z + oneUnless (p .transitions .number .0)) (same 2 (omega arith))
 
-  pub regions-count : length (regionsAfter (p .regions) (tableOf (entered l n) 3)) ≡ old 3 + oneUnless (p .regions .one) + oneUnless (p .regions .two)
+  pub regions-count : length (regionsAfter (p .regions) (tableOf (entered l n) 3)) ≡ old 3 + oneUnless (p .regions .one .0) + oneUnless (p .regions .two .0)
   unfolding regionsAfter
   regions-count =
-      added-length (p .regions .two) _ _ ∙ ap (λ (z : ℕ). z + oneUnless (p .regions .two)) (added-length (p .regions .one) _ (tableOf (entered l n) 3) ∙ ap (λ (z : ℕ). z + oneUnless (p .regions .one)) (same 3 (omega arith)))
+      added-length (p .regions .two .0) _ _ ∙ ap (λ (z : ℕ). z + oneUnless (p .regions .two .0)) (added-length (p .regions .one .0) _ (tableOf (entered l n) 3) ∙ ap (λ (z : ℕ). z + oneUnless (p .regions .one .0)) (same 3 (omega arith)))
 
   pub entries-count : length (entriesAfter l (p .entries) (tableOf (entered l n) 4)) ≡ old 4 + oneUnless (p .entries .kind)
   unfolding entriesAfter

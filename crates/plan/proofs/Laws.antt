@@ -14,7 +14,8 @@ use Rattle.definition.specs.Change.{alterRow, withoutLast, Closed, closedBy}
 use Rattle.definition.specs.Actions.{placeOfNumber}
 use Rattle.plan.specs.After.{put}
 use Rattle.plan.specs.declared.Closing.{Closing}
-use Rattle.plan.specs.Seen.{regionId, closedAt}
+use Rattle.plan.specs.Ids.{regionId}
+use Rattle.plan.specs.Seen.{closedAt}
 
 -- Native sums compute at literals only: what is drawn from the counters, as successors.
 pub draw-id : (i : ℕ) → i + 1 + 0 ≡ suc i

@@ -65,30 +65,30 @@ stateColumnsAfter p r =
 
 unfoldable pub statesAfter : Look → StatePlan → Table → Table
 unfolding alterRow stateColumnsAfter shapedIf
-statesAfter l p rs = alterRow (p .at) (λ r. stateColumnsAfter p (shapedIf l (p .texts) r)) rs
+statesAfter l p rs = alterRow (p .at .0) (λ r. stateColumnsAfter p (shapedIf l (p .texts) r)) rs
 
 -- ---- transitions and regions
 
 unfoldable pub transitionRow : Look → TransitionPlan → Row
 unfolding shapedIf
-transitionRow l p = shapedIf l (p .texts) (p .number ∷ p .doc ∷ p .source ∷ p .mode ∷ p .wildcard ∷ p .content ∷ 0 ∷ 0 ∷ [])
+transitionRow l p = shapedIf l (p .texts) (p .number .0 ∷ p .doc ∷ p .source .0 ∷ p .mode ∷ p .wildcard ∷ p .content .0 ∷ 0 ∷ 0 ∷ [])
 
 unfoldable pub transitionsAfter : Look → TransitionPlan → Table → Table
 unfolding alterRow addedIf transitionRow
-transitionsAfter l p rs = alterRow (p .at) (λ r. set r (transition .content) (p .region)) (addedIf (p .number) (transitionRow l p) rs)
+transitionsAfter l p rs = alterRow (p .at) (λ r. set r (transition .content) (p .region .0)) (addedIf (p .number .0) (transitionRow l p) rs)
 
 unfoldable pub regionRow : ℕ → Row
 regionRow i = i ∷ 0 ∷ 0 ∷ 0 ∷ 0 ∷ 0 ∷ 0 ∷ 0 ∷ []
 
 unfoldable pub regionsAfter : RegionPlan → Table → Table
 unfolding addedIf regionRow
-regionsAfter p rs = addedIf (p .two) (regionRow (p .two)) (addedIf (p .one) (regionRow (p .one)) rs)
+regionsAfter p rs = addedIf (p .two .0) (regionRow (p .two .0)) (addedIf (p .one .0) (regionRow (p .one .0)) rs)
 
 -- ---- entries and invokes
 
 unfoldable pub entryRow : Look → EntryPlan → Row
 unfolding shaped
-entryRow l p = shaped l (p .shape) (p .region ∷ p .kind ∷ p .state ∷ p .content ∷ replicate 44 0)
+entryRow l p = shaped l (p .shape) (p .region .0 ∷ p .kind ∷ p .state .0 ∷ p .content .0 ∷ replicate 44 0)
 
 -- With a content record, as shape k says.
 unfoldable pub recorded : Look → ℕ → ℕ → ℕ → Row → Row
@@ -102,7 +102,7 @@ entriesAfter l p rs = alterRow (p .at) (λ r. recorded l 0 (entry .hasContent) (
 
 unfoldable pub invokeRow : Look → InvokePlan → Row
 unfolding shaped
-invokeRow l p = shaped l 0 (p .state ∷ p .autoforward ∷ replicate 22 0)
+invokeRow l p = shaped l 0 (p .state .0 ∷ p .autoforward ∷ replicate 22 0)
 
 unfoldable pub invokesAfter : Look → InvokePlan → Table → Table
 unfolding alterRow addedIf invokeRow recorded put
@@ -112,7 +112,7 @@ invokesAfter l p rs = alterRow (p .at) (λ r. recorded l 1 (invoke .hasContent) 
 
 unfoldable pub datumsAfter : Look → DatumPlan → Table → Table
 unfolding alterRow addedIf shaped
-datumsAfter l p rs = alterRow (p .at) (λ r. shaped l (p .shape) r) (addedIf (p .added) (shaped l (p .shape) (p .state ∷ replicate 7 0)) rs)
+datumsAfter l p rs = alterRow (p .at) (λ r. shaped l (p .shape) r) (addedIf (p .added) (shaped l (p .shape) (p .state .0 ∷ replicate 7 0)) rs)
 
 unfoldable pub parametersAfter : Look → ParameterPlan → Table → Table
 unfolding addedIf shaped
@@ -178,7 +178,7 @@ moveOf (suc (suc (suc k))) = 2
 
 unfoldable pub openedAfter : ℕ → Look → OpenPlan → Table → Table
 unfolding moved
-openedAfter m l p rs = moved m (l .tag ∷ p .state ∷ p .transition ∷ l .nameLength ∷ 0 ∷ 0 ∷ 0 ∷ 0 ∷ []) rs
+openedAfter m l p rs = moved m (l .tag ∷ p .state .0 ∷ p .transition .0 ∷ l .nameLength ∷ 0 ∷ 0 ∷ 0 ∷ 0 ∷ []) rs
 
 unfoldable pub openNamesAfter : ℕ → Look → Table → Table
 unfolding moved
@@ -186,7 +186,7 @@ openNamesAfter m l rs = moved m (l .name) rs
 
 unfoldable pub openRegionsAfter : OpenRegionPlan → Table → Table
 unfolding addedIf openRegionRow
-openRegionsAfter p rs = addedIf (p .by) (openRegionRow (p .inner) (p .by)) (addedIf (p .tag) (openRegionRow (p .region) (p .tag)) (take (p .kept) rs))
+openRegionsAfter p rs = addedIf (p .by) (openRegionRow (p .inner .0) (p .by)) (addedIf (p .tag) (openRegionRow (p .region .0) (p .tag)) (take (p .kept) rs))
 
 -- ---- all of it
 
@@ -208,7 +208,7 @@ applied m l p n =
           ∷ openNamesAfter m l (tableOf n (table .openNames))
           ∷ openRegionsAfter (p .pending) (tableOf n (table .openRegions))
           ∷ [];
-      current = p .counters .current;
+      current = p .counters .current .0;
       ids = p .counters .ids;
       docs = p .counters .docs;
       names = n .names;

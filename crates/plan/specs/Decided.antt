@@ -35,8 +35,8 @@ unfolding oneUnless membersAdded
 countsAfter l p n =
     length (tableOf n (table .chart))
     ∷ (length (tableOf n (table .states)) + length (drop (length (tableOf n (table .states))) (l .known)))
-    ∷ (length (tableOf n (table .transitions)) + oneUnless (p .transitions .number))
-    ∷ (length (tableOf n (table .regions)) + oneUnless (p .regions .one) + oneUnless (p .regions .two))
+    ∷ (length (tableOf n (table .transitions)) + oneUnless (p .transitions .number .0))
+    ∷ (length (tableOf n (table .regions)) + oneUnless (p .regions .one .0) + oneUnless (p .regions .two .0))
     ∷ (length (tableOf n (table .entries)) + oneUnless (p .entries .kind))
     ∷ (length (tableOf n (table .invokes)) + oneUnless (p .invokes .added))
     ∷ (length (tableOf n (table .datums)) + oneUnless (p .datums .added))

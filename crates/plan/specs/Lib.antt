@@ -1,3 +1,4 @@
+pub mod Ids
 pub mod Plan
 pub mod After
 pub mod Seen

@@ -15,6 +15,7 @@ use Rattle.plan.specs.declared.OpenPlan.{OpenPlan}
 use Rattle.plan.specs.declared.OpenRegionPlan.{OpenRegionPlan}
 use Rattle.plan.specs.declared.CounterPlan.{CounterPlan}
 use Rattle.plan.specs.declared.Plan.{Plan}
+use Rattle.plan.specs.Ids.{stateId, transitionId, regionId}
 
 pub data Planned : Type 0 where
   planned : Plan → Planned
@@ -26,22 +27,22 @@ abbrev pub noChart : ChartPlan
 noChart = record { at = 0; binding = 0; root = 0; script = 0 }
 
 abbrev pub noState : StatePlan
-noState = record { at = 0; texts = 0; initial = 0; doc = 0; parent = 0; parallel = 0; ends = 0; history = 0; donedata = 0; filled = 0 }
+noState = record { at = stateId 0; texts = 0; initial = 0; doc = 0; parent = 0; parallel = 0; ends = 0; history = 0; donedata = 0; filled = 0 }
 
 abbrev pub noTransition : TransitionPlan
-noTransition = record { number = 0; doc = 0; source = 0; mode = 0; wildcard = 0; content = 0; texts = 0; at = 0; region = 0 }
+noTransition = record { number = transitionId 0; doc = 0; source = stateId 0; mode = 0; wildcard = 0; content = regionId 0; texts = 0; at = 0; region = regionId 0 }
 
 abbrev pub noRegion : RegionPlan
-noRegion = record { one = 0; two = 0 }
+noRegion = record { one = regionId 0; two = regionId 0 }
 
 abbrev pub noEntry : EntryPlan
-noEntry = record { kind = 0; region = 0; state = 0; content = 0; shape = 0; at = 0; other = 0; filled = 0 }
+noEntry = record { kind = 0; region = regionId 0; state = stateId 0; content = regionId 0; shape = 0; at = 0; other = 0; filled = 0 }
 
 abbrev pub noInvoke : InvokePlan
-noInvoke = record { added = 0; state = 0; autoforward = 0; at = 0; finalize = 0; filled = 0 }
+noInvoke = record { added = 0; state = stateId 0; autoforward = 0; at = 0; finalize = 0; filled = 0 }
 
 abbrev pub noDatum : DatumPlan
-noDatum = record { added = 0; state = 0; at = 0; shape = 0 }
+noDatum = record { added = 0; state = stateId 0; at = 0; shape = 0 }
 
 abbrev pub noParameter : ParameterPlan
 noParameter = record { kind = 0; owner = 0 }
@@ -56,13 +57,13 @@ abbrev pub noMembers : MembersPlan
 noMembers = record { words = noMember; owner = 0; skip = 0; one = noMember; two = noMember }
 
 abbrev pub inside : ℕ → ℕ → OpenPlan
-inside s t = record { state = s; transition = t }
+inside s t = record { state = stateId s; transition = transitionId t }
 
 abbrev pub keeping : ℕ → OpenRegionPlan
-keeping k = record { kept = k; region = 0; tag = 0; inner = 0; by = 0 }
+keeping k = record { kept = k; region = regionId 0; tag = 0; inner = regionId 0; by = 0 }
 
 abbrev pub counting : ℕ → ℕ → ℕ → CounterPlan
-counting c i d = record { current = c; ids = i; docs = d }
+counting c i d = record { current = regionId c; ids = i; docs = d }
 
 -- ---- a plan from the one that does nothing
 

@@ -23,6 +23,7 @@ use Rattle.plan.specs.declared.Declared.{Declared}
 use Rattle.plan.specs.declared.Walked.{Walked}
 use Rattle.plan.specs.declared.Seen.{Seen}
 use Rattle.plan.specs.declared.Heard.{Heard}
+use Rattle.plan.specs.Ids.{stateId, transitionId, regionId}
 use Rattle.plan.specs.Plan.{Planned, planned, refused, idle, inside, keeping, counting, member, noChart, noState, noTransition, noMember, onChart, onState, onTransition, onRegion, onEntry, onInvoke, onDatum, onParameter, onMembers, onOpenRegions, onCounters}
 use Rattle.plan.specs.Heard.{heard}
 use Rattle.plan.specs.Seen.{childMember, seen}
@@ -60,10 +61,10 @@ unfolding begun
 onlyNestP v = planned (begun v)
 
 abbrev pub newEntry : ℕ → ℕ → ℕ → ℕ → ℕ → EntryPlan
-newEntry h k r s c = record { kind = k; region = r; state = s; content = c; shape = h; at = 0; other = 0; filled = 0 }
+newEntry h k r s c = record { kind = k; region = regionId r; state = stateId s; content = regionId c; shape = h; at = 0; other = 0; filled = 0 }
 
 abbrev pub oneRegion : ℕ → RegionPlan
-oneRegion r = record { one = r; two = 0 }
+oneRegion r = record { one = regionId r; two = regionId 0 }
 
 abbrev pub oneMember : ℕ → ℕ → ℕ → MembersPlan
 oneMember l o v = record { words = noMember; owner = 0; skip = 0; one = member l o v; two = noMember }
@@ -72,7 +73,7 @@ abbrev pub someWords : ℕ → ℕ → ℕ → MembersPlan
 someWords l o v = record { words = member l o v; owner = 0; skip = 0; one = noMember; two = noMember }
 
 abbrev pub oneMore : ℕ → ℕ → ℕ → OpenRegionPlan
-oneMore k r g = record { kept = k; region = r; tag = g; inner = 0; by = 0 }
+oneMore k r g = record { kept = k; region = regionId r; tag = g; inner = regionId 0; by = 0 }
 
 -- A region is drawn, without stack: it is the current one, and no other is open.
 unfoldable pub freshP : Seen → Plan → Plan
@@ -142,7 +143,7 @@ unfoldable pub elsePlan : Seen → ℕ → Plan
 unfolding begun
 elsePlan v e =
     let r : ℕ = suc (v .ids) in
-    begun v ▷ onRegion (oneRegion r) ▷ onEntry (record { kind = 0; region = 0; state = 0; content = 0; shape = 0; at = e; other = suc r; filled = 0 })
+    begun v ▷ onRegion (oneRegion r) ▷ onEntry (record { kind = 0; region = regionId 0; state = stateId 0; content = regionId 0; shape = 0; at = e; other = suc r; filled = 0 })
     ▷ onOpenRegions (oneMore (v .closed .kept) (v .closed .current .0) (tag .if)) ▷ onCounters (counting r r (v .docs))
 
 unfoldable pub elseP : Seen → Planned
@@ -153,9 +154,9 @@ unfoldable pub elseIfPlan : Seen → ℕ → Plan
 unfolding begun
 elseIfPlan v e =
     let r : ℕ = suc (v .ids) in
-    begun v ▷ onRegion (record { one = r; two = suc r })
-    ▷ onEntry (record { kind = entryKind .if; region = r; state = 0; content = suc r; shape = 0; at = e; other = suc r; filled = 0 })
-    ▷ onOpenRegions (record { kept = v .closed .kept; region = v .closed .current .0; tag = tag .if; inner = r; by = tag .elseif }) ▷ onCounters (counting (suc r) (suc r) (v .docs))
+    begun v ▷ onRegion (record { one = regionId r; two = regionId (suc r) })
+    ▷ onEntry (record { kind = entryKind .if; region = regionId r; state = stateId 0; content = regionId (suc r); shape = 0; at = e; other = suc r; filled = 0 })
+    ▷ onOpenRegions (record { kept = v .closed .kept; region = v .closed .current; tag = tag .if; inner = regionId r; by = tag .elseif }) ▷ onCounters (counting (suc r) (suc r) (v .docs))
 
 unfoldable pub elseIfP : Seen → Planned
 unfolding closingP walkedP elseIfPlan
@@ -186,22 +187,22 @@ unfolding closingP unlessZeroP ended
 endFinalizeP v =
     let i : ℕ = v .invoke in
     closingP v (
-    unlessZeroP (v .state .0) (unlessZeroP i (planned (ended v ▷ onInvoke (record { added = 0; state = 0; autoforward = 0; at = i; finalize = suc (v .current .0); filled = 0 })))))
+    unlessZeroP (v .state .0) (unlessZeroP i (planned (ended v ▷ onInvoke (record { added = 0; state = stateId 0; autoforward = 0; at = i; finalize = suc (v .current .0); filled = 0 })))))
 
 unfoldable pub bothFinalizeP : Seen → Planned
 unfolding unlessZeroP passing
 bothFinalizeP v =
     let i : ℕ = v .invoke in
     unlessZeroP (v .state .0) (
-    unlessZeroP i (planned (passing v ▷ onInvoke (record { added = 0; state = 0; autoforward = 0; at = i; finalize = suc (suc (v .ids)); filled = 0 }))))
+    unlessZeroP i (planned (passing v ▷ onInvoke (record { added = 0; state = stateId 0; autoforward = 0; at = i; finalize = suc (suc (v .ids)); filled = 0 }))))
 
 -- ---- transitions
 
 abbrev pub stateTo : ℕ → ℕ → ℕ → ℕ → StatePlan
-stateTo s h d x = record { at = s; texts = h; initial = 0; doc = 0; parent = 0; parallel = 0; ends = 0; history = 0; donedata = d; filled = x }
+stateTo s h d x = record { at = stateId s; texts = h; initial = 0; doc = 0; parent = 0; parallel = 0; ends = 0; history = 0; donedata = d; filled = x }
 
 abbrev pub initialTo : ℕ → ℕ → StatePlan
-initialTo s t = record { at = s; texts = 0; initial = suc t; doc = 0; parent = 0; parallel = 0; ends = 0; history = 0; donedata = 0; filled = 0 }
+initialTo s t = record { at = stateId s; texts = 0; initial = suc t; doc = 0; parent = 0; parallel = 0; ends = 0; history = 0; donedata = 0; filled = 0 }
 
 -- Inside `initial` it is the state's initial; else it joins the state's transitions. r is its content, 0 until it ends.
 unfoldable pub transitionPlan : Bool → ℕ → Seen → Heard → Plan
@@ -211,7 +212,7 @@ transitionPlan inInitial r v q =
     let s : ℕ = v .state .0 in
     idleIn (inside s t) v
     ▷ onTransition (
-    record { number = t; doc = suc (v .docs); source = s; mode = q .mode; wildcard = q .wildcard; content = r; texts = 1; at = 0; region = 0 })
+    record { number = transitionId t; doc = suc (v .docs); source = stateId s; mode = q .mode; wildcard = q .wildcard; content = regionId r; texts = 1; at = 0; region = regionId 0 })
     ▷ onRegion (oneRegion (suc t))
     ▷ onState (elim inInitial [ true ↦ initialTo s t | false ↦ noState ])
     ▷ onMembers (
@@ -246,7 +247,7 @@ unfolding transitionBy wholeTransition
 bothTransitionP v q = transitionBy (λ b. wholeTransition b v q) v
 
 abbrev pub contentTo : ℕ → ℕ → TransitionPlan
-contentTo i r = record { number = 0; doc = 0; source = 0; mode = 0; wildcard = 0; content = 0; texts = 0; at = i; region = r }
+contentTo i r = record { number = transitionId 0; doc = 0; source = stateId 0; mode = 0; wildcard = 0; content = regionId 0; texts = 0; at = i; region = regionId r }
 
 unfoldable pub endTransitionP : Seen → Planned
 unfolding closingP unlessZeroP ended
@@ -274,8 +275,8 @@ unfolding unlessZeroP begun valueOf
 dataP v q =
     unlessZeroP (v .state .0) (
     elim (eqb (q .found) (suc (v .datums))) [
-      | true ↦ planned (begun v ▷ onDatum (record { added = 1; state = v .state .0; at = 0; shape = valueOf q }))
-      | false ↦ planned (begun v ▷ onDatum (record { added = 0; state = 0; at = q .found; shape = valueOf q }))
+      | true ↦ planned (begun v ▷ onDatum (record { added = 1; state = v .state; at = 0; shape = valueOf q }))
+      | false ↦ planned (begun v ▷ onDatum (record { added = 0; state = stateId 0; at = q .found; shape = valueOf q }))
     ])
 
 unfoldable pub invokeP : Seen → Heard → Planned
@@ -283,7 +284,7 @@ unfolding unlessZeroP begun
 invokeP v q =
     unlessZeroP (v .state .0) (
     planned (
-    begun v ▷ onInvoke (record { added = 1; state = v .state .0; autoforward = q .forward; at = 0; finalize = 0; filled = 0 })
+    begun v ▷ onInvoke (record { added = 1; state = v .state; autoforward = q .forward; at = 0; finalize = 0; filled = 0 })
     ▷ onMembers (someWords (list .invokeNames) (suc (v .invokes)) (q .names))))
 
 -- ---- param and content
@@ -316,7 +317,7 @@ unfoldable pub sendContentP : Seen → Heard → Planned
 unfolding onlyNestP begun
 sendContentP v q =
     elim (q .expr || eqb (q .kind) (kind .whole)) [
-      | true ↦ planned (begun v ▷ onEntry (record { kind = 0; region = 0; state = 0; content = 0; shape = 0; at = v .entry; other = 0; filled = 1 }))
+      | true ↦ planned (begun v ▷ onEntry (record { kind = 0; region = regionId 0; state = stateId 0; content = regionId 0; shape = 0; at = v .entry; other = 0; filled = 1 }))
       | false ↦ onlyNestP v
     ]
 
@@ -328,7 +329,7 @@ unfoldable pub contentP : Seen → Heard → Planned
 unfolding byParentP contentOfSendP ofLastInvokeP ofDonedataP begun
 contentP v q =
     byParentP (v .parent) (contentOfSendP v q)
-    (ofLastInvokeP v (planned (begun v ▷ onInvoke (record { added = 0; state = 0; autoforward = 0; at = v .invoke; finalize = 0; filled = 1 }))))
+    (ofLastInvokeP v (planned (begun v ▷ onInvoke (record { added = 0; state = stateId 0; autoforward = 0; at = v .invoke; finalize = 0; filled = 1 }))))
     (ofDonedataP v (planned (begun v ▷ onState (stateTo (v .state .0) 3 0 2))))
 
 -- ---- states
@@ -340,13 +341,13 @@ parentTo (suc p) = suc (suc p)
 -- x is the state as it is declared: its parent, whether it is parallel, final or a history, and what it joins.
 unfoldable pub declaredRow : ℕ → ℕ → ℕ → Declared → StatePlan
 declaredRow s i d x =
-    record { at = s; texts = 0; initial = i; doc = d; parent = x .parent; parallel = x .parallel; ends = x .ends; history = x .history; donedata = 0; filled = 0 }
+    record { at = stateId s; texts = 0; initial = i; doc = d; parent = x .parent; parallel = x .parallel; ends = x .ends; history = x .history; donedata = 0; filled = 0 }
 
 -- With an `initial` attribute or without: "state, then its `initial` transition (internal, doc id, targets made as needed), then the state's doc id."
 unfoldable pub initialRow : Bool → ℕ → Seen → TransitionPlan
 initialRow b s v =
     elim b [
-      | true ↦ record { number = suc (v .ids); doc = suc (v .docs); source = s; mode = internal; wildcard = 0; content = 0; texts = 0; at = 0; region = 0 }
+      | true ↦ record { number = transitionId (suc (v .ids)); doc = suc (v .docs); source = stateId s; mode = internal; wildcard = 0; content = regionId 0; texts = 0; at = 0; region = regionId 0 }
       | false ↦ noTransition
     ]
 
@@ -365,7 +366,7 @@ declaredMembers b x v = record { words = noMember; owner = elim b [ true ↦ suc
 unfoldable pub declaredPlan : Bool → Declared → Seen → Heard → Plan
 unfolding idleIn declaredRow initialRow docsAfter idsAfter initialIf declaredMembers
 declaredPlan b x v q =
-    let s : ℕ = q .own in
+    let s : ℕ = q .own .0 in
     idleIn (inside s (v .transition .0)) v
     ▷ onState (declaredRow s (initialIf b (v .ids)) (suc (docsAfter b (v .docs))) x)
     ▷ onTransition (initialRow b s v)
@@ -376,7 +377,7 @@ unfoldable pub asChild : ℕ → ℕ → Seen → Heard → Declared
 unfolding parentTo childMember
 asChild par fin v q =
     let p : ℕ = v .state .0 in
-    record { parent = parentTo p; parallel = par; ends = fin; history = 0; joins = childMember (v .joined) p (q .own) }
+    record { parent = parentTo p; parallel = par; ends = fin; history = 0; joins = childMember (v .joined) p (q .own .0) }
 
 unfoldable pub stateP : Seen → Heard → Planned
 unfolding declaredPlan asChild
@@ -404,7 +405,7 @@ historyP v q =
       parallel = 0;
       ends = 0;
       history = suc (q .history);
-      joins = historyMember (v .state .0) (q .own);
+      joins = historyMember (v .state .0) (q .own .0);
     }) v q)
 
 unfoldable pub bindingTo : Heard → ℕ
@@ -412,7 +413,7 @@ bindingTo q = elim (q .binds) [ true ↦ suc (q .binding) | false ↦ 0 ]
 
 -- The chart's row as scxml begins it.
 abbrev pub chartOf : Heard → ChartPlan
-chartOf q = record { at = 1; binding = bindingTo q; root = suc (q .own); script = 0 }
+chartOf q = record { at = 1; binding = bindingTo q; root = suc (q .own .0); script = 0 }
 
 unfoldable pub notChild : Declared
 notChild = record { parent = 0; parallel = 0; ends = 0; history = 0; joins = noMember }
@@ -428,7 +429,7 @@ scxmlP v q = planned (scxmlPlan v q)
 -- ---- the default initial
 
 abbrev pub defaultRow : ℕ → ℕ → TransitionPlan
-defaultRow t s = record { number = t; doc = 0; source = s; mode = 0; wildcard = 0; content = 0; texts = 0; at = 0; region = 0 }
+defaultRow t s = record { number = transitionId t; doc = 0; source = stateId s; mode = 0; wildcard = 0; content = regionId 0; texts = 0; at = 0; region = regionId 0 }
 
 unfoldable pub defaultTo : ℕ → ℕ → Seen → Plan
 unfolding idleIn
@@ -458,13 +459,13 @@ unfolding declaredPlan declaredRow
 defaulted zero x v q = declaredPlan false x v q
 defaulted (suc f) x v q =
     let t : ℕ = suc (v .ids) in
-    declaredPlan false x v q ▷ onTransition (defaultRow t (q .own)) ▷ onState (declaredRow (q .own) (suc t) (suc (suc (v .docs))) x)
+    declaredPlan false x v q ▷ onTransition (defaultRow t (q .own .0)) ▷ onState (declaredRow (q .own .0) (suc t) (suc (suc (v .docs))) x)
     ▷ onMembers (record { words = noMember; owner = 0; skip = 1; one = x .joins; two = member (list .targets) t (suc f) }) ▷ onCounters (counting (v .current .0) t (suc (v .docs)))
 
 unfoldable pub bothDeclared : ChartPlan → Bool → Declared → Seen → Heard → Planned
 unfolding unlessZeroP declaredPlan defaulted
 bothDeclared ch b x v q =
-    unlessZeroP (q .own) (
+    unlessZeroP (q .own .0) (
     elim b [
       | true ↦ planned (declaredPlan true x v q ▷ onChart ch)
       | false ↦ elim (eqb (v .own .0) 0) [ true ↦ planned (defaulted (v .eldest .0) x v q ▷ onChart ch) | false ↦ planned (declaredPlan false x v q ▷ onChart ch) ]

@@ -13,21 +13,8 @@ use Rattle.plan.specs.declared.MemberPlan.{MemberPlan}
 use Rattle.plan.specs.declared.Closing.{Closing}
 use Rattle.plan.specs.declared.Walked.{Walked}
 use Rattle.plan.specs.declared.Seen.{Seen}
-use Rattle.definition.specs.declared.StateId.{StateId}
-use Rattle.definition.specs.declared.TransitionId.{TransitionId}
-use Rattle.definition.specs.declared.RegionId.{RegionId}
+use Rattle.plan.specs.Ids.{stateId, transitionId, regionId}
 use Rattle.plan.specs.Plan.{noMember}
-
--- ---- numbers of rows, typed
-
-abbrev pub stateId : ℕ → StateId
-stateId i = record { 0 = i }
-
-abbrev pub transitionId : ℕ → TransitionId
-transitionId i = record { 0 = i }
-
-abbrev pub regionId : ℕ → RegionId
-regionId i = record { 0 = i }
 
 -- ---- reads
 

@@ -10,7 +10,7 @@ use Rattle.plan.specs.Decided.{unless}
 abbrev pub Small : Seen → Heard → Type 0
 Small v q =
     (v .ids < 65536) × (v .docs < 65536) × (v .current .0 < 65536) × (v .state .0 < 65536) × (v .entries < 65536) × (v .invokes < 65536) × (v .datums < 65536)
-    × (v .parameters < 65536) × (q .own < 65536) × (q .binding < 65536) × (q .history < 65536)
+    × (v .parameters < 65536) × (q .own .0 < 65536) × (q .binding < 65536) × (q .history < 65536)
 
 -- Of the position.
 abbrev pub Counted : Position → Type 0

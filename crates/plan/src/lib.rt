@@ -58,7 +58,7 @@ pub struct ChartPlan {
 
 /// One row, `at`. Every column is one more than its new value; texts is one more than the shape.
 pub struct StatePlan {
-    pub at: u32,
+    pub at: StateId,
     pub texts: u32,
     pub initial: u32,
     pub doc: u32,
@@ -72,29 +72,29 @@ pub struct StatePlan {
 
 /// A row added (number 0: none; texts 1: with the element's cond), and one that gets its content.
 pub struct TransitionPlan {
-    pub number: u32,
+    pub number: TransitionId,
     pub doc: u32,
-    pub source: u32,
+    pub source: StateId,
     pub mode: u32,
     pub wildcard: u32,
-    pub content: u32,
+    pub content: RegionId,
     pub texts: u32,
     pub at: u32,
-    pub region: u32,
+    pub region: RegionId,
 }
 
 /// Up to two regions, by their numbers.
 pub struct RegionPlan {
-    pub one: u32,
-    pub two: u32,
+    pub one: RegionId,
+    pub two: RegionId,
 }
 
 /// A row added (kind 0: none), and one altered: its else region, or its content (filled 1).
 pub struct EntryPlan {
     pub kind: u32,
-    pub region: u32,
-    pub state: u32,
-    pub content: u32,
+    pub region: RegionId,
+    pub state: StateId,
+    pub content: RegionId,
     pub shape: u32,
     pub at: u32,
     pub other: u32,
@@ -104,7 +104,7 @@ pub struct EntryPlan {
 /// A row added (added 0: none), and one altered: its finalize, or its content (filled 1).
 pub struct InvokePlan {
     pub added: u32,
-    pub state: u32,
+    pub state: StateId,
     pub autoforward: u32,
     pub at: u32,
     pub finalize: u32,
@@ -114,7 +114,7 @@ pub struct InvokePlan {
 /// A row added (added 0: none), or one altered, with the shape.
 pub struct DatumPlan {
     pub added: u32,
-    pub state: u32,
+    pub state: StateId,
     pub at: u32,
     pub shape: u32,
 }
@@ -143,21 +143,21 @@ pub struct MembersPlan {
 
 /// The state and the transition that are current inside the element, if it is open afterwards.
 pub struct OpenPlan {
-    pub state: u32,
-    pub transition: u32,
+    pub state: StateId,
+    pub transition: TransitionId,
 }
 
 /// kept of the open regions stay, then up to two come (tag 0: none).
 pub struct OpenRegionPlan {
     pub kept: u32,
-    pub region: u32,
+    pub region: RegionId,
     pub tag: u32,
-    pub inner: u32,
+    pub inner: RegionId,
     pub by: u32,
 }
 
 pub struct CounterPlan {
-    pub current: u32,
+    pub current: RegionId,
     pub ids: u32,
     pub docs: u32,
 }
@@ -233,7 +233,7 @@ pub struct Seen {
 pub struct Heard {
     pub kind: u32,
     pub tag: u32,
-    pub own: u32,
+    pub own: StateId,
     pub initial: bool,
     pub expr: bool,
     pub binds: bool,

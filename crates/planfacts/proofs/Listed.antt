@@ -218,7 +218,7 @@ module _ (v : Seen) (q : Heard) where
 
     both-declared : (c : ChartPlan) (x : Declared) → On g (bothDeclared c (q .initial) x v q)
     unfolding bothDeclared defaulted declaredPlan declaredMembers idleIn On
-    both-declared c x = on-unless g (q .own) _ (go (q .initial) refl)
+    both-declared c x = on-unless g (q .own .0) _ (go (q .initial) refl)
       where
         first : q .initial ≡ false → (f : ℕ) → On g (planned (onChart c (defaulted f x v q)))
         first e zero = declared-by false e x c

@@ -20,7 +20,7 @@ use Rattle.plan.specs.declared.Declared.{Declared}
 pub record InUse (v : Seen) (q : Heard) (S T E I D R : ℕ) : Type 0 where
   pub state : v .state .0 ≤ S
   pub root : v .root .0 ≤ S
-  pub own : q .own ≤ S
+  pub own : q .own .0 ≤ S
   pub place : v .place ≤ T
   pub entry : v .entry ≤ E
   pub walk : v .walk .at ≤ E
@@ -32,7 +32,7 @@ pub record InUse (v : Seen) (q : Heard) (S T E I D R : ℕ) : Type 0 where
 
 pub record Altered (p : Plan) (S T E I D R : ℕ) : Type 0 where
   pub chart : p .chart .at ≤ 1
-  pub states : p .states .at ≤ S
+  pub states : p .states .at .0 ≤ S
   pub transitions : p .transitions .at ≤ T
   pub entries : p .entries .at ≤ E
   pub invokes : p .invokes .at ≤ I
@@ -66,7 +66,7 @@ module _ (v : Seen) (q : Heard) (S T E I D R : ℕ) (U : InUse v q S T E I D R) 
   On (planned p) = Altered p S T E I D R
   On (refused k) = _≡_ {A = ℕ} 0 0
 
-  on : (p : Plan) → p .chart .at ≤ 1 → p .states .at ≤ S → p .transitions .at ≤ T → p .entries .at ≤ E → p .invokes .at ≤ I → p .datums .at ≤ D → p .pending .kept ≤ R → On (planned p)
+  on : (p : Plan) → p .chart .at ≤ 1 → p .states .at .0 ≤ S → p .transitions .at ≤ T → p .entries .at ≤ E → p .invokes .at ≤ I → p .datums .at ≤ D → p .pending .kept ≤ R → On (planned p)
   unfolding On
   on p a b c d e f g = record { chart = a; states = b; transitions = c; entries = d; invokes = e; datums = f; kept = g }
 
@@ -264,7 +264,7 @@ module _ (v : Seen) (q : Heard) (S T E I D R : ℕ) (U : InUse v q S T E I D R) 
 
   both-declared : (c : ChartPlan) (b : Bool) (x : Declared) → c .at ≤ 1 → On (bothDeclared c b x v q)
   unfolding bothDeclared defaulted declaredPlan declaredRow idleIn
-  both-declared c b x h = on-unless (q .own) _ (either b _ _ (declared true x c h) (either (eqb (v .own .0) 0) _ _ (first (v .eldest .0)) (declared false x c h)))
+  both-declared c b x h = on-unless (q .own .0) _ (either b _ _ (declared true x c h) (either (eqb (v .own .0) 0) _ _ (first (v .eldest .0)) (declared false x c h)))
     where
       first : (f : ℕ) → On (planned (onChart c (defaulted f x v q)))
       first zero = declared false x c h

@@ -27,7 +27,8 @@ use Rattle.kept.proofs.Resolved.{InRange}
 use Rattle.kept.proofs.LookOk.{look-refs, look-grown}
 use Rattle.plan.specs.declared.Closing.{Closing}
 use Rattle.plan.specs.declared.Walked.{Walked}
-use Rattle.plan.specs.Seen.{regionId, closedAt, closes, walkedAs, walkIn, seen}
+use Rattle.plan.specs.Ids.{regionId}
+use Rattle.plan.specs.Seen.{closedAt, closes, walkedAs, walkIn, seen}
 use Rattle.plan.specs.Heard.{heard}
 use Rattle.planfacts.proofs.Places.{InUse}
 

@@ -7,6 +7,7 @@ use Rattle.plan.specs.declared.Heard.{Heard}
 use Rattle.plan.specs.declared.StatePlan.{StatePlan}
 use Rattle.plan.specs.declared.TransitionPlan.{TransitionPlan}
 use Rattle.plan.specs.declared.MemberPlan.{MemberPlan}
+use Rattle.plan.specs.Ids.{transitionId, regionId}
 use Rattle.plan.specs.Plan.{noState, noMember, member}
 use Rattle.plan.specs.Plans.{initialTo}
 use Rattle.decision.specs.Told.{needing, clear}
@@ -23,4 +24,4 @@ joinFor inner s t = elim inner [ true ↦ noMember | false ↦ member (list .tra
 
 abbrev pub transitionRowP : ℕ → ℕ → Seen → Heard → TransitionPlan
 transitionRowP t content v q =
-    record { number = t; doc = suc (v .docs); source = v .state .0; mode = q .mode; wildcard = q .wildcard; content = content; texts = 1; at = 0; region = 0 }
+    record { number = transitionId t; doc = suc (v .docs); source = v .state; mode = q .mode; wildcard = q .wildcard; content = regionId content; texts = 1; at = 0; region = regionId 0 }

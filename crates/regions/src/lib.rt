@@ -33,6 +33,7 @@ use plan::StatePlan;
 use plan::TransitionPlan;
 ghost use mathlib.Core.Path.{_≡_};
 ghost use Prim.Native.Nat.{_<_, suc};
+ghost use Rattle.plan.specs.Ids.{stateId};
 ghost use Rattle.plan.specs.Plans.{regionP, endListedP, passing, bothListedP, endFinalizeP, bothFinalizeP, transitionPlan, startTransitionP, bothTransitionP, endTransitionP};
 ghost use Rattle.decision.specs.Told.{told};
 ghost use Rattle.regions.specs.Choices.{transitionNeeds, initialFor, joinFor, transitionRowP};
@@ -95,7 +96,7 @@ pub fn both_listed(list: u32, v: Seen) -> Decision
 /// An invoke gets its finalize.
 fn finalize_at(at: u32, region: RegionId) -> InvokePlan
     requires { ⌜ region .0 < 65600 ⌝ }
-    ensures { λ r. ⌜ r ≡ record { added = 0; state = 0; autoforward = 0; at = at; finalize = suc (region .0); filled = 0 } ⌝ }
+    ensures { λ r. ⌜ r ≡ record { added = 0; state = stateId 0; autoforward = 0; at = at; finalize = suc (region .0); filled = 0 } ⌝ }
 {
     let mut row = no_invoke();
     row.at = at;
@@ -167,13 +168,14 @@ fn transition_row(t: TransitionId, content: RegionId, v: Seen, q: Heard) -> Tran
     requires { ⌜ v .docs < 65536 ⌝ }
     ensures { λ r. ⌜ r ≡ transitionRowP (t .0) (content .0) v q ⌝ }
 {
+    let s = v.state;
     let mut row = no_transition();
-    row.number = t.0;
+    row.number = t;
     row.doc = v.docs + 1;
-    row.source = v.state.0;
+    row.source = s;
     row.mode = q.mode;
     row.wildcard = q.wildcard;
-    row.content = content.0;
+    row.content = content;
     row.texts = 1;
     row
 }
@@ -230,9 +232,10 @@ pub fn both_transition(v: Seen, q: Heard) -> Decision
 pub fn end_transition(v: Seen) -> Decision
     ensures { λ r. ⌜ told r ≡ endTransitionP v ⌝ }
 {
+    let content = v.current;
     let mut row = no_transition();
     row.at = v.place;
-    row.region = v.current.0;
+    row.region = content;
     let mut p = ended(v);
     p.transitions = row;
     let later = needs(v.transition.0, Refusal::INTERNAL, 0);

@@ -11,7 +11,8 @@ use Rattle.definition.specs.Reader.{rowsIn, positionOf}
 use Rattle.definition.specs.States.{ownState, isChild, initialOf}
 use Rattle.definition.specs.Actions.{lastEntry, lastInvoke, placeOfNumber}
 use Rattle.plan.specs.declared.Seen.{Seen}
-use Rattle.plan.specs.Seen.{stateId, transitionId, regionId, closes, closedAt, firstChildOr, childMember, joined, ownFirst, seen}
+use Rattle.plan.specs.Ids.{stateId, transitionId, regionId}
+use Rattle.plan.specs.Seen.{closes, closedAt, firstChildOr, childMember, joined, ownFirst, seen}
 use Rattle.plan.specs.Heard.{heard}
 use Rattle.plan.specs.Small.{Small}
 use Rattle.plan.specs.Plans.{planBy, planOf}

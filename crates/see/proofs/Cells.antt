@@ -12,7 +12,8 @@ use Rattle.definition.specs.Rows.{Row, Table, table, num, rowOf, lastOf, Number
 use Rattle.definition.specs.Actions.{lastWith, lastEntry, Walk, meets, noIf, elseWalk, walkFrom}
 use Rattle.plan.specs.declared.Closing.{Closing}
 use Rattle.plan.specs.declared.Walked.{Walked}
-use Rattle.plan.specs.Seen.{stateId, transitionId, closes, walkedAs, walkIn}
+use Rattle.plan.specs.Ids.{stateId, transitionId}
+use Rattle.plan.specs.Seen.{closes, walkedAs, walkIn}
 use Rattle.see.specs.Scans.{walkOver}
 use Rattle.see.specs.Masked.{isStart, isBoth}
 use Rattle.see.specs.View.{walkAt, walkBy, walkAfter, newFirst, defaultFor, insideOf}

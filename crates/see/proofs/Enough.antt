@@ -63,8 +63,8 @@ start-enough (suc (suc (suc (suc (suc (suc (suc (suc (suc (suc (suc (suc (suc (s
 both-enough : (g : ℕ) (v : Seen) (q : Heard) → bothP g (masked 1 g v) q ≡ bothP g v q
 unfolding bothP bothsP plainP masked onlyNestP scxmlP scxmlPlan stateP parallelP finalP historyP initialP invokeP dataP donedataP regionP elseP elseIfP elsePlan elseIfPlan paramP contentP startTransitionP bothTransitionP sendP entryP logP assignP blockP blockPlan scriptP rootScriptP bothScxmlP bothStateP bothFinalizeP bothListedP bothBlockP endScxmlP endStateP endFinalizeP endTransitionP endListedP endBlockP restP declaredPlan asChild bothDeclared defaulted defaultP defaultTo transitionBy openTransition wholeTransition transitionPlan unlessInitialP closingP walkedP ofLastSendP ofLastInvokeP ofDonedataP parameterP sendContentP contentOfSendP begun ended idleIn passing freshP initialRow declaredMembers
 both-enough zero v q = refl
-both-enough (suc zero) v q = both-by (record { at = 1; binding = bindingTo q; root = suc (q .own); script = 0 }) (q .initial) (eqb (v .own .0) 0) (q .own) _ _ (defaulted-enough 1 1 (v .eldest .0) notChild v q)
-both-enough (suc (suc zero)) v q = both-by noChart (q .initial) (eqb (v .own .0) 0) (q .own) _ _ (defaulted-enough 1 2 (v .eldest .0) (asChild 0 0 v q) v q)
+both-enough (suc zero) v q = both-by (record { at = 1; binding = bindingTo q; root = suc (q .own .0); script = 0 }) (q .initial) (eqb (v .own .0) 0) (q .own .0) _ _ (defaulted-enough 1 1 (v .eldest .0) notChild v q)
+both-enough (suc (suc zero)) v q = both-by noChart (q .initial) (eqb (v .own .0) 0) (q .own .0) _ _ (defaulted-enough 1 2 (v .eldest .0) (asChild 0 0 v q) v q)
 both-enough (suc (suc (suc zero))) v q = refl
 both-enough (suc (suc (suc (suc zero)))) v q = refl
 both-enough (suc (suc (suc (suc (suc zero))))) v q = refl

@@ -11,7 +11,8 @@ use native.Mathlib.Omega.{arith}
 use Rattle.definition.specs.Elements.{among}
 use Rattle.definition.specs.Rows.{Row, Table, num, rowOf, sameList, listed, valuesOf}
 use Rattle.definition.specs.Actions.{lastWith, placeOfNumber}
-use Rattle.plan.specs.Seen.{regionId, closedAt, firstChildOr}
+use Rattle.plan.specs.Ids.{regionId}
+use Rattle.plan.specs.Seen.{closedAt, firstChildOr}
 use Rattle.see.specs.Scans.{walkOver, isChildIn}
 
 -- ---- the last row with a number

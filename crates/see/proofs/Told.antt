@@ -11,7 +11,8 @@ use Rattle.definition.specs.Rows.{Table, num, rowOf}
 use Rattle.definition.specs.Actions.{lastWith, placeOfNumber}
 use Rattle.plan.specs.declared.Closing.{Closing}
 use Rattle.plan.specs.declared.Walked.{Walked}
-use Rattle.plan.specs.Seen.{stateId, transitionId, closes, closedAt}
+use Rattle.plan.specs.Ids.{stateId, transitionId}
+use Rattle.plan.specs.Seen.{closes, closedAt}
 use Rattle.opens.specs.declared.Open.{Open}
 use Rattle.see.specs.declared.Family.{Family}
 use Rattle.see.specs.Masked.{isElse, isPart, isInvoked, numberIf, walkedIf}

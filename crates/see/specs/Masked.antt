@@ -5,7 +5,7 @@ use lib.Dec.{eqb}
 use Rattle.definition.specs.Elements.{tag}
 use Rattle.plan.specs.declared.Walked.{Walked}
 use Rattle.plan.specs.declared.Seen.{Seen}
-use Rattle.plan.specs.Seen.{stateId}
+use Rattle.plan.specs.Ids.{stateId}
 
 -- Of the kinds open, empty, whole and end, as the plan goes by them: all but the last begin an element, and two of these end it as well.
 unfoldable pub isStart : ℕ → Bool

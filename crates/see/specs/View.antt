@@ -8,7 +8,8 @@ use Rattle.definition.specs.declared.Position.{Position}
 use Rattle.definition.specs.Elements.{tag}
 use Rattle.definition.specs.Rows.{Table, chart, state, entry, invoke, opened, num, rowOf, lastOf}
 use Rattle.definition.specs.Actions.{lastWith, placeOfNumber}
-use Rattle.plan.specs.Seen.{stateId, transitionId, closes, closedAt, firstChildOr}
+use Rattle.plan.specs.Ids.{stateId, transitionId}
+use Rattle.plan.specs.Seen.{closes, closedAt, firstChildOr}
 use Rattle.plan.specs.declared.Seen.{Seen}
 use Rattle.opens.specs.declared.Open.{Open}
 use Rattle.see.specs.declared.Family.{Family}

@@ -184,10 +184,10 @@ module _ (p : Position) (a b c d f h i j k o y r : Table) (tx : List ℕ) (v : P
       pub charge-small : m .charge < 65536
       charge-small = omega (arith, tells .charge, look-charge s (A .event) (Z .rules) (A .form))
 
-      module _ (u : Seen) (eu : u ≡ seenBy (m .heard .kind) (m .heard .tag) (m .heard .own) p (take 1 a) (take (p .states) b) (take (p .transitions) c) (take (p .entries) f) (take (p .invokes) h) (take (p .members) k) (take (p .opened) o) (take (p .«open_regions») r)) where
+      module _ (u : Seen) (eu : u ≡ seenBy (m .heard .kind) (m .heard .tag) (m .heard .own .0) p (take 1 a) (take (p .states) b) (take (p .transitions) c) (take (p .entries) f) (take (p .invokes) h) (take (p .members) k) (take (p .opened) o) (take (p .«open_regions») r)) where
         sees : u ≡ seenIn s l
         unfolding storeOf taken counts heard
-        sees = eu ∙ (λ z. seenBy (tells .heard z .kind) (tells .heard z .tag) (tells .heard z .own) (sym at-position z) (take 1 a) (take (p .states) b) (take (p .transitions) c) (take (p .entries) f) (take (p .invokes) h) (take (p .members) k) (take (p .opened) o) (take (p .«open_regions») r))
+        sees = eu ∙ (λ z. seenBy (tells .heard z .kind) (tells .heard z .tag) (tells .heard z .own .0) (sym at-position z) (take 1 a) (take (p .states) b) (take (p .transitions) c) (take (p .entries) f) (take (p .invokes) h) (take (p .members) k) (take (p .opened) o) (take (p .«open_regions») r))
 
         -- WHAT `decide` REQUIRES.
         pub small-enough : Small u (m .heard)
@@ -245,7 +245,7 @@ module _ (p : Position) (a b c d f h i j k o y r : Table) (tx : List ℕ) (v : P
               }
 
   pub settles : (m : Looked) (em : m ≡ lookedIn (take 1 a) (take (p .states) b) (take (p .datums) i) (take (p .opened) o) (take (p .opened) y) (take (p .used) tx) p v)
-      (u : Seen) (eu : u ≡ seenBy (m .heard .kind) (m .heard .tag) (m .heard .own) p (take 1 a) (take (p .states) b) (take (p .transitions) c) (take (p .entries) f) (take (p .invokes) h) (take (p .members) k) (take (p .opened) o) (take (p .«open_regions») r))
+      (u : Seen) (eu : u ≡ seenBy (m .heard .kind) (m .heard .tag) (m .heard .own .0) p (take 1 a) (take (p .states) b) (take (p .transitions) c) (take (p .entries) f) (take (p .invokes) h) (take (p .members) k) (take (p .opened) o) (take (p .«open_regions») r))
       (g : Decision) (eg : told g ≡ planBy (m .heard .kind) u (m .heard)) (t : ℕ) → t ≡ firstOf (m .no) (g .refusal) (within limits01 p (m .refs) (m .new) (m .made) (m .charge) (g .plan))
       → Settles x p v (record { number = t; plan = g .plan; made = m .made; charge = m .charge })
   unfolding ready

@@ -3,7 +3,6 @@ use decide::decide;
 use decide::stays_within;
 use decision::Decision;
 use definition::Position;
-use definition::StateId;
 use look::Looked;
 use look::look;
 use plain::Plain;
@@ -112,7 +111,7 @@ pub fn settle(
     let v = see(
         h.kind,
         h.tag,
-        StateId(h.own),
+        h.own,
         p,
         c,
         s,

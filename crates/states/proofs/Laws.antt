@@ -74,7 +74,7 @@ defaulted-no (suc f) x v q e = absurd (omega arith)
 
 pub defaulted-yes : (f : ℕ) (x : Declared) (v : Seen) (q : Heard) → ¬ (f ≡ 0)
     → onCounters (counting (v .current .0) (suc (v .ids)) (suc (v .docs))) (onMembers (record { words = noMember; owner = 0; skip = 1; one = x .joins; two = member 6 (suc (v .ids)) f }) (
-    onState (declaredRow (q .own) (suc (suc (v .ids))) (suc (suc (v .docs))) x) (onTransition (defaultRow (suc (v .ids)) (q .own)) (declaredPlan false x v q)))) ≡ defaulted f x v q
+    onState (declaredRow (q .own .0) (suc (suc (v .ids))) (suc (suc (v .docs))) x) (onTransition (defaultRow (suc (v .ids)) (q .own .0)) (declaredPlan false x v q)))) ≡ defaulted f x v q
 unfolding defaulted
 defaulted-yes zero x v q e = absurd (e refl)
 defaulted-yes (suc f) x v q e = refl
@@ -84,15 +84,15 @@ defaulted-yes (suc f) x v q e = refl
 pub both-same : (b : Bool) (v : Seen) (q : Heard) {ch ch′ : ChartPlan} {x x′ : Declared} → ch ≡ ch′ → x ≡ x′ → bothDeclared ch b x v q ≡ bothDeclared ch′ b x′ v q
 both-same b v q e f = cc
 
-module _ (ch : ChartPlan) (x : Declared) (v : Seen) (q : Heard) (k : ℕ) (no : k ≡ needing (q .own) 2 0) where
+module _ (ch : ChartPlan) (x : Declared) (v : Seen) (q : Heard) (k : ℕ) (no : k ≡ needing (q .own .0) 2 0) where
   pub both-initial : (b : Bool) (p : Plan) → b ≡ true → p ≡ declaredPlan true x v q → toldBy k (onChart ch p) ≡ bothDeclared ch b x v q
   unfolding bothDeclared
-  both-initial b p e f = needs₁ (q .own) no (ap (onChart ch) f) ∙ ap (unlessZeroP (q .own)) (by-true b _ e refl)
+  both-initial b p e f = needs₁ (q .own .0) no (ap (onChart ch) f) ∙ ap (unlessZeroP (q .own .0)) (by-true b _ e refl)
 
   pub both-default : (b : Bool) (p : Plan) → b ≡ false → v .own .0 ≡ 0 → p ≡ defaulted (v .eldest .0) x v q → toldBy k (onChart ch p) ≡ bothDeclared ch b x v q
   unfolding bothDeclared
-  both-default b p e g f = needs₁ (q .own) no (ap (onChart ch) f) ∙ ap (unlessZeroP (q .own)) (by-false b _ e (by-same (v .own .0) 0 _ g refl))
+  both-default b p e g f = needs₁ (q .own .0) no (ap (onChart ch) f) ∙ ap (unlessZeroP (q .own .0)) (by-false b _ e (by-same (v .own .0) 0 _ g refl))
 
   pub both-plain : (b : Bool) (p : Plan) → b ≡ false → ¬ (v .own .0 ≡ 0) → p ≡ declaredPlan false x v q → toldBy k (onChart ch p) ≡ bothDeclared ch b x v q
   unfolding bothDeclared
-  both-plain b p e g f = needs₁ (q .own) no (ap (onChart ch) f) ∙ ap (unlessZeroP (q .own)) (by-false b _ e (by-other (v .own .0) 0 _ g refl))
+  both-plain b p e g f = needs₁ (q .own .0) no (ap (onChart ch) f) ∙ ap (unlessZeroP (q .own .0)) (by-false b _ e (by-other (v .own .0) 0 _ g refl))

@@ -9,6 +9,7 @@ use Rattle.plan.specs.declared.Heard.{Heard}
 use Rattle.plan.specs.declared.ChartPlan.{ChartPlan}
 use Rattle.plan.specs.declared.MemberPlan.{MemberPlan}
 use Rattle.plan.specs.declared.MembersPlan.{MembersPlan}
+use Rattle.plan.specs.Ids.{stateId}
 use Rattle.plan.specs.Plan.{member, noMember, onChart, onDatum}
 use Rattle.plan.specs.Plans.{begun, valueOf}
 
@@ -23,4 +24,4 @@ abbrev pub withChart : ChartPlan → Plan → Plan
 withChart ch p = onChart ch p
 
 abbrev pub datumPlan : ℕ → ℕ → ℕ → Seen → Heard → Plan
-datumPlan added s at v q = begun v ▷ onDatum (record { added = added; state = s; at = at; shape = valueOf q })
+datumPlan added s at v q = begun v ▷ onDatum (record { added = added; state = stateId s; at = at; shape = valueOf q })

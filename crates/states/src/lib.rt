@@ -91,9 +91,10 @@ fn initial_row(initial: bool, s: StateId, v: Seen) -> TransitionPlan
 {
     let mut row = no_transition();
     if initial {
-        row.number = v.ids + 1;
+        let t = TransitionId(v.ids + 1);
+        row.number = t;
         row.doc = v.docs + 1;
-        row.source = s.0;
+        row.source = s;
         row.mode = TransitionType::INTERNAL;
         return row;
     }
@@ -116,7 +117,7 @@ fn declared_row(s: StateId, initial: u32, doc: u32, x: Declared) -> StatePlan
     ensures { λ r. ⌜ r ≡ declaredRow (s .0) initial doc x ⌝ }
 {
     StatePlan {
-        at: s.0,
+        at: s,
         texts: 0,
         initial: initial,
         doc: doc,
@@ -134,11 +135,10 @@ fn declared_plan(initial: bool, x: Declared, v: Seen, q: Heard) -> Plan
     requires { ⌜ (v .ids < 65536) × (v .docs < 65536) ⌝ }
     ensures { λ r. ⌜ r ≡ declaredPlan initial x v q ⌝ }
 {
-    let s = StateId(q.own);
     let docs = docs_after(initial, v.docs);
-    let mut p = idle_in(inside(s, v.transition), v);
-    p.states = declared_row(s, initial_if(initial, v.ids), docs + 1, x);
-    p.transitions = initial_row(initial, s, v);
+    let mut p = idle_in(inside(q.own, v.transition), v);
+    p.states = declared_row(q.own, initial_if(initial, v.ids), docs + 1, x);
+    p.transitions = initial_row(initial, q.own, v);
     p.members = declared_members(initial, x.joins, v);
     p.counters = counting(v.current, ids_after(initial, v.ids), docs);
     p
@@ -173,7 +173,7 @@ fn as_child(parallel: u32, ends: u32, v: Seen, q: Heard) -> Declared
         parallel: parallel,
         ends: ends,
         history: Put::KEEP,
-        joins: child_member(v.joined, v.state, StateId(q.own)),
+        joins: child_member(v.joined, v.state, q.own),
     }
 }
 
@@ -207,7 +207,7 @@ pub fn history(v: Seen, q: Heard) -> Decision
         parallel: Put::KEEP,
         ends: Put::KEEP,
         history: q.history + 1,
-        joins: history_member(v.state, StateId(q.own)),
+        joins: history_member(v.state, q.own),
     };
     Decision {
         refusal: 0,
@@ -239,19 +239,19 @@ fn binding_to(q: Heard) -> u32
 }
 
 fn chart_of(q: Heard) -> ChartPlan
-    requires { ⌜ (q .binding < 65536) × (q .own < 65536) ⌝ }
+    requires { ⌜ (q .binding < 65536) × (q .own .0 < 65536) ⌝ }
     ensures { λ r. ⌜ r ≡ chartOf q ⌝ }
 {
     ChartPlan {
         at: 1,
         binding: binding_to(q),
-        root: q.own + 1,
+        root: q.own.0 + 1,
         script: Put::KEEP,
     }
 }
 
 pub fn scxml(v: Seen, q: Heard) -> Decision
-    requires { ⌜ (v .ids < 65536) × (v .docs < 65536) × (q .binding < 65536) × (q .own < 65536) ⌝ }
+    requires { ⌜ (v .ids < 65536) × (v .docs < 65536) × (q .binding < 65536) × (q .own .0 < 65536) ⌝ }
     ensures { λ r. ⌜ told r ≡ scxmlP v q ⌝ }
 {
     let mut p = declared_plan(q.initial, not_child(), v, q);
@@ -266,8 +266,8 @@ fn default_row(t: TransitionId, s: StateId) -> TransitionPlan
     ensures { λ r. ⌜ r ≡ defaultRow (t .0) (s .0) ⌝ }
 {
     let mut row = no_transition();
-    row.number = t.0;
-    row.source = s.0;
+    row.number = t;
+    row.source = s;
     row
 }
 
@@ -326,10 +326,9 @@ fn defaulted(first: StateId, x: Declared, v: Seen, q: Heard) -> Plan
     if first.0 == 0 {
         return p;
     }
-    let s = StateId(q.own);
     let t = next_transition(v);
-    p.transitions = default_row(t, s);
-    p.states = declared_row(s, t.0 + 1, v.docs + 2, x);
+    p.transitions = default_row(t, q.own);
+    p.states = declared_row(q.own, t.0 + 1, v.docs + 2, x);
     p.members = default_members(x.joins, t, first);
     p.counters = counting(v.current, t.0, v.docs + 1);
     p
@@ -351,7 +350,7 @@ fn both_declared(chart: ChartPlan, initial: bool, x: Declared, v: Seen, q: Heard
     requires { ⌜ (v .ids < 65536) × (v .docs < 65536) ⌝ }
     ensures { λ r. ⌜ told r ≡ bothDeclared chart initial x v q ⌝ }
 {
-    let refusal = needs(q.own, Refusal::INTERNAL, 0);
+    let refusal = needs(q.own.0, Refusal::INTERNAL, 0);
     if initial {
         return with_chart(refusal, chart, declared_plan(true, x, v, q));
     }
@@ -370,7 +369,7 @@ pub fn both_state(v: Seen, q: Heard) -> Decision
 }
 
 pub fn both_scxml(v: Seen, q: Heard) -> Decision
-    requires { ⌜ (v .ids < 65536) × (v .docs < 65536) × (q .binding < 65536) × (q .own < 65536) ⌝ }
+    requires { ⌜ (v .ids < 65536) × (v .docs < 65536) × (q .binding < 65536) × (q .own .0 < 65536) ⌝ }
     ensures { λ r. ⌜ told r ≡ bothScxmlP v q ⌝ }
 {
     both_declared(chart_of(q), q.initial, not_child(), v, q)
@@ -415,7 +414,7 @@ fn datum_plan(added: u32, state: StateId, at: u32, v: Seen, q: Heard) -> Plan
 {
     let row = DatumPlan {
         added: added,
-        state: state.0,
+        state: state,
         at: at,
         shape: value_of(q),
     };

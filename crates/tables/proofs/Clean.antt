@@ -33,15 +33,15 @@ unfolding after oneUnless
 after-sum n zero = omega arith
 after-sum n (suc k) = refl
 
-pub regions-clean : (p : RegionPlan) (n : ℕ) (t : Table) → n + oneUnless (p .one) + oneUnless (p .two) ≤ length t → regionsIn p n t ≡ over (regionsAfter p (take n t)) t
+pub regions-clean : (p : RegionPlan) (n : ℕ) (t : Table) → n + oneUnless (p .one .0) + oneUnless (p .two .0) ≤ length t → regionsIn p n t ≡ over (regionsAfter p (take n t)) t
 unfolding regionsIn regionsAfter
 regions-clean p n t h =
     let u : Table = take n t in
     let e : length u ≡ n = length-take-le n t (omega arith) in
-    let r : Row = regionRow (p .one) in
-    ap (λ (z : Table). setUnless (p .two) (setUnless (p .one) z n r) (after n (p .one)) (regionRow (p .two))) (sym (over-start n t (omega arith)))
-    ∙ ap (λ (z : Table). setUnless (p .two) z (after n (p .one)) (regionRow (p .two))) (added-over (p .one) n u t r e (omega arith))
-    ∙ added-over (p .two) (after n (p .one)) (addedIf (p .one) r u) t (regionRow (p .two)) (added-count (p .one) n u r e) (omega (arith, after-sum n (p .one)))
+    let r : Row = regionRow (p .one .0) in
+    ap (λ (z : Table). setUnless (p .two .0) (setUnless (p .one .0) z n r) (after n (p .one .0)) (regionRow (p .two .0))) (sym (over-start n t (omega arith)))
+    ∙ ap (λ (z : Table). setUnless (p .two .0) z (after n (p .one .0)) (regionRow (p .two .0))) (added-over (p .one .0) n u t r e (omega arith))
+    ∙ added-over (p .two .0) (after n (p .one .0)) (addedIf (p .one .0) r u) t (regionRow (p .two .0)) (added-count (p .one .0) n u r e) (omega (arith, after-sum n (p .one .0)))
 
 -- ---- members one by one
 
@@ -95,8 +95,8 @@ open-regions-clean p n t a b c =
     let k : ℕ = p .kept in
     let u : Table = take k t in
     let e : length u ≡ k = length-take-le k t (omega arith) in
-    let r : Row = openRegionRow (p .region) (p .tag) in
-    let q : Row = openRegionRow (p .inner) (p .by) in
+    let r : Row = openRegionRow (p .region .0) (p .tag) in
+    let q : Row = openRegionRow (p .inner .0) (p .by) in
     ap (λ (z : Table). setUnless (p .by) (setUnless (p .tag) z k r) (after k (p .tag)) q) (sym (over-start k t (omega arith)))
     ∙ ap (λ (z : Table). setUnless (p .by) z (after k (p .tag)) q) (added-over (p .tag) k u t r e (omega arith))
     ∙ added-over (p .by) (after k (p .tag)) (addedIf (p .tag) r u) t q (added-count (p .tag) k u r e) (omega (arith, after-sum k (p .tag)))

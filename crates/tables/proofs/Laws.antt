@@ -30,7 +30,7 @@ unfolding after
 after-yes n zero h = absurd (h refl)
 after-yes n (suc k) h = refl
 
-pub regions-done : (p : RegionPlan) (n m : ℕ) (t t₁ t₂ : Table) (r₁ r₂ : Row) → t₂ ≡ setUnless (p .two) t₁ m r₂ → t₁ ≡ setUnless (p .one) t n r₁ → m ≡ after n (p .one) → r₁ ≡ regionRow (p .one) → r₂ ≡ regionRow (p .two) → t₂ ≡ regionsIn p n t
+pub regions-done : (p : RegionPlan) (n m : ℕ) (t t₁ t₂ : Table) (r₁ r₂ : Row) → t₂ ≡ setUnless (p .two .0) t₁ m r₂ → t₁ ≡ setUnless (p .one .0) t n r₁ → m ≡ after n (p .one .0) → r₁ ≡ regionRow (p .one .0) → r₂ ≡ regionRow (p .two .0) → t₂ ≡ regionsIn p n t
 unfolding regionsIn
 regions-done p n m t t₁ t₂ r₁ r₂ e f g h i = cc
 
@@ -47,8 +47,8 @@ opens-none zero n t r h = absurd (h refl)
 opens-none (suc m) n t r h = refl
 
 pub open-regions-done : (p : OpenRegionPlan) (n m : ℕ) (t t₁ t₂ : Table) (r₁ r₂ : Row) → t₂ ≡ setUnless (p .by) t₁ m r₂ → t₁ ≡ setUnless (p .tag) t n r₁ → n ≡ p .kept → m ≡ after n (p .tag)
-    → r₁ ≡ openRegionRow (p .region) (p .tag) → r₂ ≡ openRegionRow (p .inner) (p .by) → t₂ ≡ openRegionsIn p t
+    → r₁ ≡ openRegionRow (p .region .0) (p .tag) → r₂ ≡ openRegionRow (p .inner .0) (p .by) → t₂ ≡ openRegionsIn p t
 unfolding openRegionsIn
 open-regions-done p n m t t₁ t₂ r₁ r₂ e f en em a b =
     e ∙ ap₂ (λ (x : Table) (y : Row). setUnless (p .by) x m y) (f ∙ ap₂ (λ (x : ℕ) (y : Row). setUnless (p .tag) t x y) en a) b
-    ∙ ap (λ (x : ℕ). setUnless (p .by) (setUnless (p .tag) t (p .kept) (openRegionRow (p .region) (p .tag))) x (openRegionRow (p .inner) (p .by))) (em ∙ ap (λ (x : ℕ). after x (p .tag)) en)
+    ∙ ap (λ (x : ℕ). setUnless (p .by) (setUnless (p .tag) t (p .kept) (openRegionRow (p .region .0) (p .tag))) x (openRegionRow (p .inner .0) (p .by))) (em ∙ ap (λ (x : ℕ). after x (p .tag)) en)

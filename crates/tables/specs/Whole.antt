@@ -21,7 +21,7 @@ after n (suc k) = n + 1
 
 unfoldable pub regionsIn : RegionPlan → ℕ → Table → Table
 unfolding setUnless after regionRow
-regionsIn p n t = setUnless (p .two) (setUnless (p .one) t n (regionRow (p .one))) (after n (p .one)) (regionRow (p .two))
+regionsIn p n t = setUnless (p .two .0) (setUnless (p .one .0) t n (regionRow (p .one .0))) (after n (p .one .0)) (regionRow (p .two .0))
 
 -- ---- members
 
@@ -32,7 +32,7 @@ memberIn p n t = setUnless (p .list) t n (memberRow (p .list) (p .owner) (p .val
 -- ---- open elements: 0, one more is open; else the rows stay as they are, and only the count changes
 
 unfoldable pub openedRow : ℕ → ℕ → OpenPlan → Row
-openedRow g n p = g ∷ p .state ∷ p .transition ∷ n ∷ 0 ∷ 0 ∷ 0 ∷ 0 ∷ []
+openedRow g n p = g ∷ p .state .0 ∷ p .transition .0 ∷ n ∷ 0 ∷ 0 ∷ 0 ∷ 0 ∷ []
 
 unfoldable pub openRowIn : ℕ → ℕ → Table → Row → Table
 openRowIn zero n t r = set t n r
@@ -40,4 +40,4 @@ openRowIn (suc m) n t r = t
 
 unfoldable pub openRegionsIn : OpenRegionPlan → Table → Table
 unfolding setUnless after openRegionRow
-openRegionsIn p t = setUnless (p .by) (setUnless (p .tag) t (p .kept) (openRegionRow (p .region) (p .tag))) (after (p .kept) (p .tag)) (openRegionRow (p .inner) (p .by))
+openRegionsIn p t = setUnless (p .by) (setUnless (p .tag) t (p .kept) (openRegionRow (p .region .0) (p .tag))) (after (p .kept) (p .tag)) (openRegionRow (p .inner .0) (p .by))

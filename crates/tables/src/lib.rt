@@ -1,6 +1,5 @@
 // Rows written into lent tables as a plan says, those without texts of the event: regions, members named one by one, what is open. n rows are in use.
-use definition::StateId;
-use definition::TransitionId;
+use definition::RegionId;
 use opens::opened;
 use plan::MemberPlan;
 use plan::OpenPlan;
@@ -61,10 +60,10 @@ fn more(n: usize, k: u32) -> usize
     n + 1
 }
 
-fn region_row(i: u32) -> [u32; 8]
-    ensures { λ r. ⌜ r ≡ regionRow i ⌝ }
+fn region_row(i: RegionId) -> [u32; 8]
+    ensures { λ r. ⌜ r ≡ regionRow (i .0) ⌝ }
 {
-    [i, 0, 0, 0, 0, 0, 0, 0]
+    [i.0, 0, 0, 0, 0, 0, 0, 0]
 }
 
 pub fn change_regions(regions: &mut [[u32; 8]], n: usize, p: RegionPlan)
@@ -73,9 +72,9 @@ pub fn change_regions(regions: &mut [[u32; 8]], n: usize, p: RegionPlan)
 {
     let one = region_row(p.one);
     let two = region_row(p.two);
-    let m = more(n, p.one);
-    put_unless(regions, p.one, n, one);
-    put_unless(regions, p.two, m, two);
+    let m = more(n, p.one.0);
+    put_unless(regions, p.one.0, n, one);
+    put_unless(regions, p.two.0, m, two);
 }
 
 fn member_row(p: MemberPlan) -> [u32; 8]
@@ -104,7 +103,7 @@ pub fn add_two(members: &mut [[u32; 8]], n: usize, one: MemberPlan, two: MemberP
 fn opened_row(tag: u32, length: u32, p: OpenPlan) -> [u32; 8]
     ensures { λ r. ⌜ r ≡ openedRow tag length p ⌝ }
 {
-    let inside = opened(StateId(p.state), TransitionId(p.transition), tag);
+    let inside = opened(p.state, p.transition, tag);
     [
         inside.tag,
         inside.state.0,
@@ -135,10 +134,10 @@ pub fn change_opened(
     }
 }
 
-fn open_region_row(region: u32, tag: u32) -> [u32; 8]
-    ensures { λ r. ⌜ r ≡ openRegionRow region tag ⌝ }
+fn open_region_row(region: RegionId, tag: u32) -> [u32; 8]
+    ensures { λ r. ⌜ r ≡ openRegionRow (region .0) tag ⌝ }
 {
-    [region, tag, 0, 0, 0, 0, 0, 0]
+    [region.0, tag, 0, 0, 0, 0, 0, 0]
 }
 
 pub fn change_open_regions(regions: &mut [[u32; 8]], p: OpenRegionPlan)

@@ -404,7 +404,7 @@ module _ (p : Position) (a b c d f h i j k o y r : Table) (tx : List ℕ) (e : E
 
           opened-room : m ≡ 0 → p .opened < 32
           unfolding applied openedAfter entered storeOf taken counts onTable
-          opened-room v = omega (arith, G .opened, moved-length m (l .tag ∷ q .opened .state ∷ q .opened .transition ∷ l .nameLength ∷ 0 ∷ 0 ∷ 0 ∷ 0 ∷ []) (take (p .opened) o) v, taken-length (p .opened) 32 o (Z .opened))
+          opened-room v = omega (arith, G .opened, moved-length m (l .tag ∷ q .opened .state .0 ∷ q .opened .transition .0 ∷ l .nameLength ∷ 0 ∷ 0 ∷ 0 ∷ 0 ∷ []) (take (p .opened) o) v, taken-length (p .opened) 32 o (Z .opened))
 
           regions-after : q .pending .kept + oneUnless (q .pending .tag) + oneUnless (q .pending .by) ≤ 64
           unfolding applied openRegionsAfter entered storeOf taken counts onTable
@@ -413,8 +413,8 @@ module _ (p : Position) (a b c d f h i j k o y r : Table) (tx : List ℕ) (e : E
               omega (
                 arith,
                 G .open-regions,
-                added-length (q .pending .by) (openRegionRow (q .pending .inner) (q .pending .by)) (addedIf (q .pending .tag) (openRegionRow (q .pending .region) (q .pending .tag)) (take (q .pending .kept) (take (p .«open_regions») r))),
-                added-length (q .pending .tag) (openRegionRow (q .pending .region) (q .pending .tag)) (take (q .pending .kept) (take (p .«open_regions») r)),
+                added-length (q .pending .by) (openRegionRow (q .pending .inner .0) (q .pending .by)) (addedIf (q .pending .tag) (openRegionRow (q .pending .region .0) (q .pending .tag)) (take (q .pending .kept) (take (p .«open_regions») r))),
+                added-length (q .pending .tag) (openRegionRow (q .pending .region .0) (q .pending .tag)) (take (q .pending .kept) (take (p .«open_regions») r)),
                 kl,
               )
 
@@ -469,7 +469,7 @@ module _ (p : Position) (a b c d f h i j k o y r : Table) (tx : List ℕ) (e : E
                   (ap (over (statesAfter l (q .states) E)) states-now ∙ over-over (statesAfter l (q .states) E) E b (omega (arith, states-altered)))
                 where
                   states-altered : length (statesAfter l (q .states) E) ≡ length E
-                  states-altered = unfold statesAfter in alter-length (q .states .at) _ E
+                  states-altered = unfold statesAfter in alter-length (q .states .at .0) _ E
 
           -- ---- the text and the position
 
@@ -492,8 +492,8 @@ module _ (p : Position) (a b c d f h i j k o y r : Table) (tx : List ℕ) (e : E
           unfolding openedAfter
           opened-now = by-kind (e .kind) kind-le
             where
-              by-kind : (v : ℕ) → v ≤ 3 → openedBy v (p .opened) ≡ length (moved (moveOf v) (l .tag ∷ q .opened .state ∷ q .opened .transition ∷ l .nameLength ∷ 0 ∷ 0 ∷ 0 ∷ 0 ∷ []) (take (p .opened) o))
-              by-kind zero w′ = unfold openedBy moveOf moved in omega (arith, length-append (take (p .opened) o) ((l .tag ∷ q .opened .state ∷ q .opened .transition ∷ l .nameLength ∷ 0 ∷ 0 ∷ 0 ∷ 0 ∷ []) ∷ []), taken-length (p .opened) 32 o (Z .opened))
+              by-kind : (v : ℕ) → v ≤ 3 → openedBy v (p .opened) ≡ length (moved (moveOf v) (l .tag ∷ q .opened .state .0 ∷ q .opened .transition .0 ∷ l .nameLength ∷ 0 ∷ 0 ∷ 0 ∷ 0 ∷ []) (take (p .opened) o))
+              by-kind zero w′ = unfold openedBy moveOf moved in omega (arith, length-append (take (p .opened) o) ((l .tag ∷ q .opened .state .0 ∷ q .opened .transition .0 ∷ l .nameLength ∷ 0 ∷ 0 ∷ 0 ∷ 0 ∷ []) ∷ []), taken-length (p .opened) 32 o (Z .opened))
               by-kind (suc zero) w′ = unfold openedBy moveOf moved in sym (taken-length (p .opened) 32 o (Z .opened))
               by-kind (suc (suc zero)) w′ = unfold openedBy moveOf moved in sym (taken-length (p .opened) 32 o (Z .opened))
               by-kind (suc (suc (suc v))) w′ = unfold openedBy moveOf moved in omega (arith, last-length (take (p .opened) o), taken-length (p .opened) 32 o (Z .opened))
@@ -504,9 +504,9 @@ module _ (p : Position) (a b c d f h i j k o y r : Table) (tx : List ℕ) (e : E
           pub position-now : (made : Bool) → made ≡ madeIn (parsedOf e) → positionBy p q (e .kind) made (l .charge) z ≡ positionOf (record { numbers = after; text = textAfter s e })
           unfolding positionBy positionOf rowsIn applied entered storeOf taken counts onTable membersAfter openRegionsAfter
           position-now made em =
-              let states : z .states ≡ length (statesAfter l (q .states) E) = count-now ∙ sym (unfold statesAfter in alter-length (q .states .at) _ E) in
-              let transitions : p .transitions + oneUnless (q .transitions .number) ≡ length (transitionsAfter l (q .transitions) (take (p .transitions) c)) = grown (p .transitions) 512 _ _ c (Z .transitions) (transitions-count limits01 l q n m (F .twelve)) in
-              let regions : p .regions + oneUnless (q .regions .one) + oneUnless (q .regions .two) ≡ length (regionsAfter (q .regions) (take (p .regions) d)) =
+              let states : z .states ≡ length (statesAfter l (q .states) E) = count-now ∙ sym (unfold statesAfter in alter-length (q .states .at .0) _ E) in
+              let transitions : p .transitions + oneUnless (q .transitions .number .0) ≡ length (transitionsAfter l (q .transitions) (take (p .transitions) c)) = grown (p .transitions) 512 _ _ c (Z .transitions) (transitions-count limits01 l q n m (F .twelve)) in
+              let regions : p .regions + oneUnless (q .regions .one .0) + oneUnless (q .regions .two .0) ≡ length (regionsAfter (q .regions) (take (p .regions) d)) =
               omega (arith, regions-count limits01 l q n m (F .twelve), taken-length (p .regions) 512 d (Z .regions)) in
               let entries : p .entries + oneUnless (q .entries .kind) ≡ length (entriesAfter l (q .entries) (take (p .entries) f)) = grown (p .entries) 2048 _ _ f (Z .entries) (entries-count limits01 l q n m (F .twelve)) in
               let invokes : p .invokes + oneUnless (q .invokes .added) ≡ length (invokesAfter l (q .invokes) (take (p .invokes) h)) = grown (p .invokes) 64 _ _ h (Z .invokes) (invokes-count limits01 l q n m (F .twelve)) in
@@ -515,12 +515,12 @@ module _ (p : Position) (a b c d f h i j k o y r : Table) (tx : List ℕ) (e : E
               let members : z .members + oneUnless (q .members .one .list) + oneUnless (q .members .two .list) ≡ length (memberAfter (q .members .two) (memberAfter (q .members .one) L)) =
               omega (arith, listed-now, members-size (q .members .two) (memberAfter (q .members .one) L), members-size (q .members .one) L) in
               let pending : q .pending .kept + oneUnless (q .pending .tag) + oneUnless (q .pending .by)
-              ≡ length (addedIf (q .pending .by) (openRegionRow (q .pending .inner) (q .pending .by)) (addedIf (q .pending .tag) (openRegionRow (q .pending .region) (q .pending .tag)) (take (q .pending .kept) (take (p .«open_regions») r)))) =
+              ≡ length (addedIf (q .pending .by) (openRegionRow (q .pending .inner .0) (q .pending .by)) (addedIf (q .pending .tag) (openRegionRow (q .pending .region .0) (q .pending .tag)) (take (q .pending .kept) (take (p .«open_regions») r)))) =
               omega (
                 arith,
                 length-take-le (q .pending .kept) (take (p .«open_regions») r) (A .kept),
-                added-length (q .pending .by) (openRegionRow (q .pending .inner) (q .pending .by)) (addedIf (q .pending .tag) (openRegionRow (q .pending .region) (q .pending .tag)) (take (q .pending .kept) (take (p .«open_regions») r))),
-                added-length (q .pending .tag) (openRegionRow (q .pending .region) (q .pending .tag)) (take (q .pending .kept) (take (p .«open_regions») r)),
+                added-length (q .pending .by) (openRegionRow (q .pending .inner .0) (q .pending .by)) (addedIf (q .pending .tag) (openRegionRow (q .pending .region .0) (q .pending .tag)) (take (q .pending .kept) (take (p .«open_regions») r))),
+                added-length (q .pending .tag) (openRegionRow (q .pending .region .0) (q .pending .tag)) (take (q .pending .kept) (take (p .«open_regions») r)),
               ) in
               let names : p .names + oneIf made ≡ p .names + l .generated = ap (λ (v : Bool). p .names + oneIf v) em ∙ ap (λ (v : ℕ). p .names + v) (made-law s e) in
               λ v.
@@ -535,7 +535,7 @@ module _ (p : Position) (a b c d f h i j k o y r : Table) (tx : List ℕ) (e : E
                 parameters = parameters v;
                 members = members v;
                 «open_regions» = pending v;
-                current = record { 0 = q .counters .current };
+                current = q .counters .current;
                 ids = q .counters .ids;
                 docs = q .counters .docs;
                 names = names v;

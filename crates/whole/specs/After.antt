@@ -22,15 +22,15 @@ positionBy p q k g c w =
     record {
       opened = openedBy k (p .opened);
       states = w .states;
-      transitions = p .transitions + oneUnless (q .transitions .number);
-      regions = p .regions + oneUnless (q .regions .one) + oneUnless (q .regions .two);
+      transitions = p .transitions + oneUnless (q .transitions .number .0);
+      regions = p .regions + oneUnless (q .regions .one .0) + oneUnless (q .regions .two .0);
       entries = p .entries + oneUnless (q .entries .kind);
       invokes = p .invokes + oneUnless (q .invokes .added);
       datums = p .datums + oneUnless (q .datums .added);
       parameters = p .parameters + oneUnless (q .parameters .kind);
       members = w .members + oneUnless (q .members .one .list) + oneUnless (q .members .two .list);
       «open_regions» = q .pending .kept + oneUnless (q .pending .tag) + oneUnless (q .pending .by);
-      current = record { 0 = q .counters .current };
+      current = q .counters .current;
       ids = q .counters .ids;
       docs = q .counters .docs;
       names = p .names + oneIf g;

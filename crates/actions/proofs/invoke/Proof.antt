@@ -22,7 +22,7 @@ needs-requires c κs = search needs
 
 returns : tie.Need-returns
 unfolding told invokeP
-returns c = needs₁ (c .before .before .before .before .before .args .v .state .0) (c .needs .ensures) (rw (c .before .before .before .before .no-invoke .ensures, c .before .before .before .begun .ensures, c .before .some-words .ensures, up (c .before .before .before .before .before .args .v .invokes)))
+returns c = needs₁ (c .before .before .before .before .before .before .args .v .state .0) (c .needs .ensures) (rw (c .before .before .before .before .no-invoke .ensures, c .before .before .before .begun .ensures, c .before .some-words .ensures, up (c .before .before .before .before .before .before .args .v .invokes)))
 
 pub invoke-spec : {M : Type 1} → statement M
 invoke-spec =

@@ -11,7 +11,7 @@ use Rattle.charts.proofs.transition_row.Reads as transition-row-reads
 
 -- src/lib.rt:43:9
 returns : tie.Need-returns
-returns c = unless-no (c .before .before .before .args .p .number) (c .before .before .before .args .transitions .now) (c .before .before .before .args .n) (newTransition (c .before .before .before .args .t .now) (c .before .before .before .args .tag) (c .before .before .before .args .p)) (c .if1 .taken)
+returns c = unless-no (c .before .before .before .args .p .number .0) (c .before .before .before .args .transitions .now) (c .before .before .before .args .n) (newTransition (c .before .before .before .args .t .now) (c .before .before .before .args .tag) (c .before .before .before .args .p)) (c .if1 .taken)
 
 -- src/lib.rt:45:9
 transition-row-requires : tie.Need-transition-row-requires
@@ -27,7 +27,7 @@ same-length c = search needs
 
 -- src/lib.rt:39:1
 returns-2 : tie.Need-returns-2
-returns-2 c = unless-yes (c .before .before .before .before .before .before .before .args .p .number) (c .before .before .before .before .before .before .before .args .transitions .now) _ (c .before .before .before .before .before .before .before .args .n) (newTransition (c .before .before .before .before .before .before .before .args .t .now) (c .before .before .before .before .before .before .before .args .tag) (c .before .before .before .before .before .before .before .args .p)) _ (c .before .before .before .before .if1 .left) (c .before .put-8 .ensures) (c .before .before .before .transition-row .ensures)
+returns-2 c = unless-yes (c .before .before .before .before .before .before .before .args .p .number .0) (c .before .before .before .before .before .before .before .args .transitions .now) _ (c .before .before .before .before .before .before .before .args .n) (newTransition (c .before .before .before .before .before .before .before .args .t .now) (c .before .before .before .before .before .before .before .args .tag) (c .before .before .before .before .before .before .before .args .p)) _ (c .before .before .before .before .if1 .left) (c .before .put-8 .ensures) (c .before .before .before .transition-row .ensures)
 
 pub add-transition-spec : {M : Type 1} → statement M
 add-transition-spec =

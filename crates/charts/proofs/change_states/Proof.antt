@@ -12,7 +12,7 @@ use Rattle.charts.proofs.state_changed.Reads as state-changed-reads
 
 -- src/lib.rt:97:9
 returns : tie.Need-returns
-returns c = alter-none (c .before .before .before .args .p .at) (stateRowBy (c .before .before .before .args .t .now) (c .before .before .before .args .tag) (c .before .before .before .args .p)) (c .before .before .before .args .states .now) (c .if1 .taken)
+returns c = alter-none (c .before .before .before .args .p .at .0) (stateRowBy (c .before .before .before .args .t .now) (c .before .before .before .args .tag) (c .before .before .before .args .p)) (c .before .before .before .args .states .now) (c .if1 .taken)
 
 -- src/lib.rt:99:18
 sub-index : tie.Need-sub-index
@@ -48,11 +48,11 @@ same-length c = search needs
 
 -- src/lib.rt:104:9
 returns-2 : tie.Need-returns-2
-returns-2 c = alter-at (c .before .before .before .before .before .before .before .before .args .p .at) (c .before .before .before .index .result) (stateRowBy (c .before .before .before .before .before .before .before .before .args .t .now) (c .before .before .before .before .before .before .before .before .args .tag) (c .before .before .before .before .before .before .before .before .args .p)) (c .before .before .before .before .before .before .before .before .args .states .now) _ _ (c .before .before .before .before .before .if1 .left) (c .before .before .before .index .ensures .0) refl (c .state-changed .ensures)
+returns-2 c = alter-at (c .before .before .before .before .before .before .before .before .args .p .at .0) (c .before .before .before .index .result) (stateRowBy (c .before .before .before .before .before .before .before .before .args .t .now) (c .before .before .before .before .before .before .before .before .args .tag) (c .before .before .before .before .before .before .before .before .args .p)) (c .before .before .before .before .before .before .before .before .args .states .now) _ _ (c .before .before .before .before .before .if1 .left) (c .before .before .before .index .ensures .0) refl (c .state-changed .ensures)
 
 -- src/lib.rt:93:1
 returns-3 : tie.Need-returns-3
-returns-3 c = alter-out (c .before .before .before .before .before .before .args .p .at) (c .before .index .result) (stateRowBy (c .before .before .before .before .before .before .args .t .now) (c .before .before .before .before .before .before .args .tag) (c .before .before .before .before .before .before .args .p)) (c .before .before .before .before .before .before .args .states .now) (c .before .before .before .if1 .left) (c .before .index .ensures .0) (c .if2 .left)
+returns-3 c = alter-out (c .before .before .before .before .before .before .args .p .at .0) (c .before .index .result) (stateRowBy (c .before .before .before .before .before .before .args .t .now) (c .before .before .before .before .before .before .args .tag) (c .before .before .before .before .before .before .args .p)) (c .before .before .before .before .before .before .args .states .now) (c .before .before .before .if1 .left) (c .before .index .ensures .0) (c .if2 .left)
 
 pub change-states-spec : {M : Type 1} → statement M
 change-states-spec =

@@ -106,7 +106,7 @@ or-else-requires-3 c κs = search needs
 
 -- src/lib.rt:181:1
 returns-2 : tie.Need-returns-2
-returns-2 c = heard-is (c .before .before .before .before .before .before .before .before .before .before .before .before .before .before .before .before .before .before .before .before .before .before .args .src .now) (c .before .before .before .before .before .before .before .before .before .before .before .before .before .before .before .before .before .before .before .before .before .before .args .p) (c .before .before .before .before .before .before .before .before .before .before .before .before .before .before .before .before .before .before .before .before .before .before .args .ix) (c .before .before .before .before .before .before .before .before .before .before .before .before .before .before .before .before .before .before .before .before .before .before .pre) (c .before .before .before .before .before .before .before .before .before .before .before .before .before .before .before .before .before .before .before .before .before .before .args .own) (c .before .before .before .before .before .before .before .before .before .before .before .before .before .before .before .before .before .before .before .before .before .before .args .found) _ refl refl refl (there (c .before .before .before .before .before .before .before .before .before .before .before .before .before .before .before .before .before .before .before .before .before .before .args .src .now) (c .before .before .before .before .before .before .before .before .before .before .before .before .before .before .before .before .before .before .before .before .before .before .args .p) (c .before .before .before .before .before .before .before .before .before .before .before .before .before .before .before .before .before .before .before .before .before .before .args .ix) (c .before .before .before .before .before .before .before .before .before .before .before .before .before .before .before .before .before .before .before .before .before .before .pre) 2 (omega arith) _ (c .before .before .before .before .before .before .before .before .before .before .before .before .before .before .before .before .before .before .has .ensures)) (there (c .before .before .before .before .before .before .before .before .before .before .before .before .before .before .before .before .before .before .before .before .before .before .args .src .now) (c .before .before .before .before .before .before .before .before .before .before .before .before .before .before .before .before .before .before .before .before .before .before .args .p) (c .before .before .before .before .before .before .before .before .before .before .before .before .before .before .before .before .before .before .before .before .before .before .args .ix) (c .before .before .before .before .before .before .before .before .before .before .before .before .before .before .before .before .before .before .before .before .before .before .pre) 19 (omega arith) _ (c .before .before .before .before .before .before .before .before .before .before .before .before .before .before .before .before .before .has2 .ensures)) (there (c .before .before .before .before .before .before .before .before .before .before .before .before .before .before .before .before .before .before .before .before .before .before .args .src .now) (c .before .before .before .before .before .before .before .before .before .before .before .before .before .before .before .before .before .before .before .before .before .before .args .p) (c .before .before .before .before .before .before .before .before .before .before .before .before .before .before .before .before .before .before .before .before .before .before .args .ix) (c .before .before .before .before .before .before .before .before .before .before .before .before .before .before .before .before .before .before .before .before .before .before .pre) 5 (omega arith) _ (c .before .before .before .before .before .before .before .before .before .before .before .before .before .before .before .before .has3 .ensures)) (code-in (c .before .before .before .before .before .before .before .before .before .before .before .before .before .before .before .before .before .before .before .before .before .before .args .src .now) (c .before .before .before .before .before .before .before .before .before .before .before .before .before .before .before .before .before .before .before .before .before .before .args .p) (c .before .before .before .before .before .before .before .before .before .before .before .before .before .before .before .before .before .before .before .before .before .before .args .ix) (c .before .before .before .before .before .before .before .before .before .before .before .before .before .before .before .before .before .before .before .before .before .before .pre) 0 (c .before .before .before .before .before .before .before .before .before .before .before .before .before .before .before .before .before .before .before .before .before .before .args .p .tag) 5 (omega arith) _ (c .before .before .before .before .before .before .before .before .before .before .before .before .before .before .before .before .has3 .ensures) _ (c .before .before .before .before .before .before .before .before .before .before .before .before .before .before .value .ensures .0) _ (c .before .before .before .before .before .before .before .before .before .before .before .before .before .binding-of .ensures) _ (c .before .before .before .or-else .ensures)) (c .before .type-of .ensures ∙ ap typeOf (code-in (c .before .before .before .before .before .before .before .before .before .before .before .before .before .before .before .before .before .before .before .before .before .before .args .src .now) (c .before .before .before .before .before .before .before .before .before .before .before .before .before .before .before .before .before .before .before .before .before .before .args .p) (c .before .before .before .before .before .before .before .before .before .before .before .before .before .before .before .before .before .before .before .before .before .before .args .ix) (c .before .before .before .before .before .before .before .before .before .before .before .before .before .before .before .before .before .before .before .before .before .before .pre) 0 (c .before .before .before .before .before .before .before .before .before .before .before .before .before .before .before .before .before .before .before .before .before .before .args .p .tag) 7 (omega arith) _ (c .before .before .before .before .before .before .before .before .before .before .before .before .before .before .before .has4 .ensures) _ (c .before .before .before .before .before .before .before .before .before .before .before .before .value2 .ensures .0) _ (c .before .before .before .before .before .before .before .before .before .before .before .type-code .ensures) _ (c .before .before .or-else2 .ensures))) (code-in (c .before .before .before .before .before .before .before .before .before .before .before .before .before .before .before .before .before .before .before .before .before .before .args .src .now) (c .before .before .before .before .before .before .before .before .before .before .before .before .before .before .before .before .before .before .before .before .before .before .args .p) (c .before .before .before .before .before .before .before .before .before .before .before .before .before .before .before .before .before .before .before .before .before .before .args .ix) (c .before .before .before .before .before .before .before .before .before .before .before .before .before .before .before .before .before .before .before .before .before .before .pre) 1 (c .before .before .before .before .before .before .before .before .before .before .before .before .before .before .before .before .before .before .before .before .before .before .args .p .tag) 7 (omega arith) _ (c .before .before .before .before .before .before .before .before .before .before .before .before .before .before .before .has4 .ensures) _ (c .before .before .before .before .before .before .before .before .before .before .before .before .value2 .ensures .0) _ (c .before .before .before .before .before .before .before .before .before .before .before .type-code .ensures) _ (c .or-else3 .ensures)) (c .before .before .before .before .before .before .before .before .before .wildcard-of .ensures ∙ ap (codeOf (c .before .before .before .before .before .before .before .before .before .before .before .before .before .before .before .before .before .before .before .before .before .before .args .p .tag) 14) (c .before .before .before .before .before .before .before .before .before .before .value3 .ensures .0)) (c .before .before .before .before .before .before .forward-of .ensures ∙ ap (codeOf (c .before .before .before .before .before .before .before .before .before .before .before .before .before .before .before .before .before .before .before .before .before .before .args .p .tag) 13) (c .before .before .before .before .before .before .before .value4 .ensures .0)) (words-in (c .before .before .before .before .before .before .before .before .before .before .before .before .before .before .before .before .before .before .before .before .before .before .args .p .tag) 14 _ _ (c .before .before .before .before .before .before .before .before .before .before .value3 .ensures .0) _ (c .before .before .before .before .before .before .before .before .events-of .ensures)) (words-in (c .before .before .before .before .before .before .before .before .before .before .before .before .before .before .before .before .before .before .before .before .before .before .args .p .tag) 12 _ _ (c .before .before .before .before .before .value5 .ensures .0) _ (c .before .before .before .before .names-of .ensures)) refl
+returns-2 c = heard-is (c .before .before .before .before .before .before .before .before .before .before .before .before .before .before .before .before .before .before .before .before .before .before .args .src .now) (c .before .before .before .before .before .before .before .before .before .before .before .before .before .before .before .before .before .before .before .before .before .before .args .p) (c .before .before .before .before .before .before .before .before .before .before .before .before .before .before .before .before .before .before .before .before .before .before .args .ix) (c .before .before .before .before .before .before .before .before .before .before .before .before .before .before .before .before .before .before .before .before .before .before .pre) (c .before .before .before .before .before .before .before .before .before .before .before .before .before .before .before .before .before .before .before .before .before .before .args .own .0) (c .before .before .before .before .before .before .before .before .before .before .before .before .before .before .before .before .before .before .before .before .before .before .args .found) _ refl refl refl (there (c .before .before .before .before .before .before .before .before .before .before .before .before .before .before .before .before .before .before .before .before .before .before .args .src .now) (c .before .before .before .before .before .before .before .before .before .before .before .before .before .before .before .before .before .before .before .before .before .before .args .p) (c .before .before .before .before .before .before .before .before .before .before .before .before .before .before .before .before .before .before .before .before .before .before .args .ix) (c .before .before .before .before .before .before .before .before .before .before .before .before .before .before .before .before .before .before .before .before .before .before .pre) 2 (omega arith) _ (c .before .before .before .before .before .before .before .before .before .before .before .before .before .before .before .before .before .before .has .ensures)) (there (c .before .before .before .before .before .before .before .before .before .before .before .before .before .before .before .before .before .before .before .before .before .before .args .src .now) (c .before .before .before .before .before .before .before .before .before .before .before .before .before .before .before .before .before .before .before .before .before .before .args .p) (c .before .before .before .before .before .before .before .before .before .before .before .before .before .before .before .before .before .before .before .before .before .before .args .ix) (c .before .before .before .before .before .before .before .before .before .before .before .before .before .before .before .before .before .before .before .before .before .before .pre) 19 (omega arith) _ (c .before .before .before .before .before .before .before .before .before .before .before .before .before .before .before .before .before .has2 .ensures)) (there (c .before .before .before .before .before .before .before .before .before .before .before .before .before .before .before .before .before .before .before .before .before .before .args .src .now) (c .before .before .before .before .before .before .before .before .before .before .before .before .before .before .before .before .before .before .before .before .before .before .args .p) (c .before .before .before .before .before .before .before .before .before .before .before .before .before .before .before .before .before .before .before .before .before .before .args .ix) (c .before .before .before .before .before .before .before .before .before .before .before .before .before .before .before .before .before .before .before .before .before .before .pre) 5 (omega arith) _ (c .before .before .before .before .before .before .before .before .before .before .before .before .before .before .before .before .has3 .ensures)) (code-in (c .before .before .before .before .before .before .before .before .before .before .before .before .before .before .before .before .before .before .before .before .before .before .args .src .now) (c .before .before .before .before .before .before .before .before .before .before .before .before .before .before .before .before .before .before .before .before .before .before .args .p) (c .before .before .before .before .before .before .before .before .before .before .before .before .before .before .before .before .before .before .before .before .before .before .args .ix) (c .before .before .before .before .before .before .before .before .before .before .before .before .before .before .before .before .before .before .before .before .before .before .pre) 0 (c .before .before .before .before .before .before .before .before .before .before .before .before .before .before .before .before .before .before .before .before .before .before .args .p .tag) 5 (omega arith) _ (c .before .before .before .before .before .before .before .before .before .before .before .before .before .before .before .before .has3 .ensures) _ (c .before .before .before .before .before .before .before .before .before .before .before .before .before .before .value .ensures .0) _ (c .before .before .before .before .before .before .before .before .before .before .before .before .before .binding-of .ensures) _ (c .before .before .before .or-else .ensures)) (c .before .type-of .ensures ∙ ap typeOf (code-in (c .before .before .before .before .before .before .before .before .before .before .before .before .before .before .before .before .before .before .before .before .before .before .args .src .now) (c .before .before .before .before .before .before .before .before .before .before .before .before .before .before .before .before .before .before .before .before .before .before .args .p) (c .before .before .before .before .before .before .before .before .before .before .before .before .before .before .before .before .before .before .before .before .before .before .args .ix) (c .before .before .before .before .before .before .before .before .before .before .before .before .before .before .before .before .before .before .before .before .before .before .pre) 0 (c .before .before .before .before .before .before .before .before .before .before .before .before .before .before .before .before .before .before .before .before .before .before .args .p .tag) 7 (omega arith) _ (c .before .before .before .before .before .before .before .before .before .before .before .before .before .before .before .has4 .ensures) _ (c .before .before .before .before .before .before .before .before .before .before .before .before .value2 .ensures .0) _ (c .before .before .before .before .before .before .before .before .before .before .before .type-code .ensures) _ (c .before .before .or-else2 .ensures))) (code-in (c .before .before .before .before .before .before .before .before .before .before .before .before .before .before .before .before .before .before .before .before .before .before .args .src .now) (c .before .before .before .before .before .before .before .before .before .before .before .before .before .before .before .before .before .before .before .before .before .before .args .p) (c .before .before .before .before .before .before .before .before .before .before .before .before .before .before .before .before .before .before .before .before .before .before .args .ix) (c .before .before .before .before .before .before .before .before .before .before .before .before .before .before .before .before .before .before .before .before .before .before .pre) 1 (c .before .before .before .before .before .before .before .before .before .before .before .before .before .before .before .before .before .before .before .before .before .before .args .p .tag) 7 (omega arith) _ (c .before .before .before .before .before .before .before .before .before .before .before .before .before .before .before .has4 .ensures) _ (c .before .before .before .before .before .before .before .before .before .before .before .before .value2 .ensures .0) _ (c .before .before .before .before .before .before .before .before .before .before .before .type-code .ensures) _ (c .or-else3 .ensures)) (c .before .before .before .before .before .before .before .before .before .wildcard-of .ensures ∙ ap (codeOf (c .before .before .before .before .before .before .before .before .before .before .before .before .before .before .before .before .before .before .before .before .before .before .args .p .tag) 14) (c .before .before .before .before .before .before .before .before .before .before .value3 .ensures .0)) (c .before .before .before .before .before .before .forward-of .ensures ∙ ap (codeOf (c .before .before .before .before .before .before .before .before .before .before .before .before .before .before .before .before .before .before .before .before .before .before .args .p .tag) 13) (c .before .before .before .before .before .before .before .value4 .ensures .0)) (words-in (c .before .before .before .before .before .before .before .before .before .before .before .before .before .before .before .before .before .before .before .before .before .before .args .p .tag) 14 _ _ (c .before .before .before .before .before .before .before .before .before .before .value3 .ensures .0) _ (c .before .before .before .before .before .before .before .before .events-of .ensures)) (words-in (c .before .before .before .before .before .before .before .before .before .before .before .before .before .before .before .before .before .before .before .before .before .before .args .p .tag) 12 _ _ (c .before .before .before .before .before .value5 .ensures .0) _ (c .before .before .before .before .names-of .ensures)) refl
 
 pub heard-spec : {M : Type 1} → statement M
 heard-spec =

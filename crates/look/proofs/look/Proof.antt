@@ -31,11 +31,11 @@ inside-requires c κs = search needs
 found-requires : tie.Need-found-requires
 found-requires c κs = search needs
 
-cast-heard : tie.Need-cast-heard
-cast-heard c = omega (arith, own-small (c .before .before .before .before .before .before .args .text .now) (c .before .before .before .before .before .before .args .states .now) (c .before .before .before .before .before .before .args .position .names) (parsedIn (c .before .before .before .before .before .before .args .src .now) (c .before .before .before .before .before .before .args .p)) (c .before .before .before .before .before .before .pre .0 .0) _ (c .before .before .look-names .ensures))
+cast-t25 : tie.Need-cast-t25
+cast-t25 c = omega (arith, own-small (c .before .before .before .before .before .before .args .text .now) (c .before .before .before .before .before .before .args .states .now) (c .before .before .before .before .before .before .args .position .names) (parsedIn (c .before .before .before .before .before .before .args .src .now) (c .before .before .before .before .before .before .args .p)) (c .before .before .before .before .before .before .pre .0 .0) _ (c .before .before .look-names .ensures))
 
-cast-heard-2 : tie.Need-cast-heard-2
-cast-heard-2 c = omega (arith, found-small (c .before .before .before .before .before .before .args .text .now) (c .before .before .before .before .before .before .args .datums .now) _ (parsedIn (c .before .before .before .before .before .before .args .src .now) (c .before .before .before .before .before .before .args .p)) (c .before .before .before .before .before .before .pre .0 .1) _ (c .found .ensures))
+cast-heard : tie.Need-cast-heard
+cast-heard c = omega (arith, found-small (c .before .before .before .before .before .before .args .text .now) (c .before .before .before .before .before .before .args .datums .now) _ (parsedIn (c .before .before .before .before .before .before .args .src .now) (c .before .before .before .before .before .before .args .p)) (c .before .before .before .before .before .before .pre .0 .1) _ (c .found .ensures))
 
 heard-requires : tie.Need-heard-requires
 heard-requires c κs = search needs
@@ -75,8 +75,8 @@ look-spec =
     look-names-requires
     inside-requires
     found-requires
+    cast-t25
     cast-heard
-    cast-heard-2
     heard-requires
     ask-requires
     bytes-of-requires

@@ -19,7 +19,7 @@ needs-requires-2 c κs = search needs
 
 returns : tie.Need-returns
 unfolding told endTransitionP closingP
-returns c = needs₂ (c .before .before .before .before .args .v .closed .met) (c .before .before .before .before .args .v .transition .0) (c .needs2 .ensures) (c .before .needs .ensures) (rw (c .before .before .ended .ensures, c .before .before .before .no-transition .ensures))
+returns c = needs₂ (c .before .before .before .before .before .args .v .closed .met) (c .before .before .before .before .before .args .v .transition .0) (c .needs2 .ensures) (c .before .needs .ensures) (rw (c .before .before .ended .ensures, c .before .before .before .no-transition .ensures))
 
 pub end-transition-spec : {M : Type 1} → statement M
 end-transition-spec =

@@ -4,6 +4,7 @@ use Rattle.regions.specs.Choices.{initialFor, joinFor}
 use Rattle.decision.proofs.Laws.{up}
 use mathlib.Core.Path.{ap, _∙_}
 use Prim.Native.Nat.{ℕ}
+use native.Mathlib.Omega.{arith}
 use borrow.Author.Needs.{needs}
 use Rattle.regions.proofs.transition_plan.Statement.{statement}
 use Rattle.regions.proofs.transition_plan.Tie as tie
@@ -33,7 +34,7 @@ one-region-requires : tie.Need-one-region-requires
 one-region-requires c κs = search needs
 
 initial-for-requires : tie.Need-initial-for-requires
-initial-for-requires c κs = search needs
+initial-for-requires c κs = omega (arith, c .before .before .before .before .before .before .before .before .pre)
 
 keeping-requires : tie.Need-keeping-requires
 keeping-requires c κs = search needs

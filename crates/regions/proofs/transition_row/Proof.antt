@@ -10,7 +10,7 @@ add-row : tie.Need-add-row
 add-row c = search needs
 
 returns : tie.Need-returns
-returns c = rw (c .before .no-transition .ensures, up (c .before .before .args .v .docs))
+returns c = rw (c .before .no-transition .ensures, up (c .before .before .before .args .v .docs))
 
 pub transition-row-spec : {M : Type 1} → statement M
 transition-row-spec = tie.close (tie.spec no-transition-requires add-row returns)

@@ -1,5 +1,6 @@
 use Rattle.see.proofs.Scans.{close-none, close-all, close-here, close-outer}
-use Rattle.plan.specs.Seen.{regionId, closedAt}
+use Rattle.plan.specs.Ids.{regionId}
+use Rattle.plan.specs.Seen.{closedAt}
 use Rattle.definition.specs.Rows.{num}
 use mathlib.Core.List.{[]}
 use lib.ListN.{getD}

@@ -1,4 +1,5 @@
-use Rattle.plan.specs.Seen.{stateId, firstChildOr}
+use Rattle.plan.specs.Ids.{stateId}
+use Rattle.plan.specs.Seen.{firstChildOr}
 use Rattle.see.specs.Masked.{numberIf}
 use mathlib.Core.Bool.{Bool}
 use mathlib.Core.Path.{ap, sym, _∙_}

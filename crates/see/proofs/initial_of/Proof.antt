@@ -1,4 +1,4 @@
-use Rattle.plan.specs.Seen.{transitionId}
+use Rattle.plan.specs.Ids.{transitionId}
 use mathlib.Core.Path.{ap}
 use borrow.Author.Needs.{needs}
 use Rattle.see.proofs.initial_of.Statement.{statement}

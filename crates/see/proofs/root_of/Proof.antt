@@ -1,5 +1,5 @@
 use Rattle.see.proofs.Cells.{no-row}
-use Rattle.plan.specs.Seen.{stateId}
+use Rattle.plan.specs.Ids.{stateId}
 use mathlib.Core.Path.{ap, refl}
 use borrow.Author.Needs.{needs}
 use Rattle.see.proofs.root_of.Statement.{statement}

@@ -7,11 +7,11 @@ use Rattle.states.proofs.initial_row.Tie as tie
 no-transition-requires : tie.Need-no-transition-requires
 no-transition-requires c κs = search needs
 
+add-t7 : tie.Need-add-t7
+add-t7 c = search needs
+
 add-row : tie.Need-add-row
 add-row c = search needs
-
-add-row-2 : tie.Need-add-row-2
-add-row-2 c = search needs
 
 returns : tie.Need-returns
 unfolding initialRow
@@ -22,4 +22,4 @@ unfolding initialRow
 returns-2 c = rw (c .if1 .left, c .before .no-transition .ensures)
 
 pub initial-row-spec : {M : Type 1} → statement M
-initial-row-spec = tie.close (tie.spec no-transition-requires add-row add-row-2 returns returns-2)
+initial-row-spec = tie.close (tie.spec no-transition-requires add-t7 add-row returns returns-2)
