@@ -52,7 +52,7 @@ name-unknown zero w r h l e =
 pub counted : (t : List ℕ) (g m s : ℕ) (name : Row) (n : Position) (p : Plan) (a a′ b b′ c c′ d d′ e e′ f f′ i i′ j j′ k k′ o o′ q q′ r r′ : Table) (nt nr ne nv nd np nm nw nn : ℕ)
     → nt ≡ n .transitions → nr ≡ n .regions → ne ≡ n .entries → nv ≡ n .invokes → nd ≡ n .datums → np ≡ n .parameters → nm ≡ n .members → nw ≡ n .opened → nn ≡ n .opened
     → a′ ≡ alterRow (p .chart .at) (chartRow t g (p .chart)) a
-    → b′ ≡ alterRow (p .states .at) (stateRowBy t g (p .states)) b
+    → b′ ≡ alterRow (p .states .at .0) (stateRowBy t g (p .states)) b
     → c′ ≡ transitionsIn t g (p .transitions) nt c
     → d′ ≡ regionsIn (p .regions) nr d
     → e′ ≡ entriesIn t g (p .entries) ne e
