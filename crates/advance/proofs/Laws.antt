@@ -10,6 +10,7 @@ use Rattle.definition.specs.Limits.{limits01}
 use Rattle.definition.specs.Look.{oneIf}
 use Rattle.definition.specs.Position.{oneMore, counting, pushedAt, poppedAt, nameDrawn}
 use Rattle.kept.proofs.Base.{false-is-true}
+use Rattle.plan.specs.After.{moveOf}
 use Rattle.plan.specs.Decided.{oneUnless}
 use Rattle.whole.specs.After.{openedBy}
 
@@ -58,3 +59,13 @@ pub name-kept : (made : Bool) (p : Position) → made ≡ false → p .names ≡
 unfolding oneIf
 name-kept true p e = false-is-true (sym e)
 name-kept false p e = omega arith
+
+pub moves-at : (k m r : ℕ) → k ≡ m → r ≡ moveOf m → r ≡ moveOf k
+moves-at k m r h e = e ∙ sym (ap moveOf h)
+
+pub moves-rest : (k : ℕ) → (k ≡ 0 → ⊥) → (k ≡ 1 → ⊥) → (k ≡ 2 → ⊥) → 2 ≡ moveOf k
+unfolding moveOf
+moves-rest zero a b c = absurd (a refl)
+moves-rest (suc zero) a b c = absurd (b refl)
+moves-rest (suc (suc zero)) a b c = absurd (c refl)
+moves-rest (suc (suc (suc k))) a b c = refl

@@ -19,6 +19,7 @@ use plan::TransitionPlan;
 ghost use mathlib.Core.Path.{_≡_};
 ghost use Prim.Native.Nat.{_≤_, _<_, _+_};
 ghost use Rattle.definition.specs.Look.{oneIf};
+ghost use Rattle.plan.specs.After.{moveOf};
 ghost use Rattle.plan.specs.Decided.{oneUnless};
 ghost use Rattle.whole.specs.After.{openedBy, positionBy, InRange};
 
@@ -29,6 +30,18 @@ fn one(k: u32) -> u32
         return 0;
     }
     1
+}
+
+// What becomes of the open elements: 0 for one more, 1 for as many, 2 for one less.
+pub fn moves(kind: u32) -> u32
+    ensures { λ r. ⌜ r ≡ moveOf kind ⌝ }
+{
+    match kind {
+        0 => 0,
+        1 => 1,
+        2 => 1,
+        _ => 2,
+    }
 }
 
 // `empty` and `whole` are a start and an end as one event.

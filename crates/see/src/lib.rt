@@ -115,6 +115,15 @@ fn close_region(tag: u32, open_regions: &[[u32; 8]], k: u32, current: RegionId) 
     close_region(tag, open_regions, at, outer)
 }
 
+/// What the element closes, of all open regions.
+fn closing(tag: u32, open_regions: &[[u32; 8]], current: RegionId) -> Closing
+    requires { ⌜ length (now open_regions) < 2 ^ 32 ⌝ }
+    ensures { λ r. ⌜ r ≡ closedAt (closes tag) (now (open_regions .entry)) (length (now (open_regions .entry))) (current .0) ⌝ }
+{
+    let open = open_regions.len() as u32;
+    close_region(closes(tag), open_regions, open, current)
+}
+
 /// The last entry of a region, from 1; 0 where there is none. From the end: it is near.
 fn last_entry(entries: &[[u32; 48]], region: RegionId) -> u32
     requires { ⌜ length (now entries) < 2 ^ 32 ⌝ }
@@ -354,8 +363,7 @@ pub fn see(
     let transition = element.transition;
     let root = root_of(chart);
     let current = position.current;
-    let open = open_regions.len() as u32;
-    let closed = close_region(closes(tag), open_regions, open, current);
+    let closed = closing(tag, open_regions, current);
     let entry = entry_for(tag, entries, current);
     let kin = kin_of(kind, tag, members, state, root, own);
     let first = kin.first;

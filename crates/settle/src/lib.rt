@@ -123,14 +123,13 @@ pub fn settle(
         first_8(pending, p.open_regions),
     );
     let d = decide(h.kind, v, h);
-    let made = l.made;
     let charge = l.charge;
-    let number = first_of(l.no, p, l.refs, l.new, made, charge, d);
+    let number = first_of(l.no, p, l.refs, l.new, l.made, charge, d);
     let plan = d.plan;
     Settled {
         number: number,
         plan: plan,
-        made: made,
+        made: l.made,
         charge: charge as u32,
     }
 }

@@ -1,14 +1,14 @@
 // All that an accepted event does, written. Nothing here can fail: what is asked of the caller is that the event gets 0.
+use advance::moves;
 use advance::position_after;
 use apply::apply;
 use apply::name_row;
 use arena::Written;
 use arena::write_texts;
 use definition::Position;
-use lines::part_of;
-use parts::place;
 use plain::Plain;
 use plain::Slot;
+use plain::bytes_of;
 use plan::ChartPlan;
 use plan::CounterPlan;
 use plan::DatumPlan;
@@ -27,32 +27,10 @@ ghost use mathlib.Core.Path.{_≡_};
 ghost use Prim.Native.Nat.{_<_, _≤_};
 ghost use lib.ListN.{length};
 ghost use Rattle.definition.specs.Look.{keptName};
-ghost use Rattle.lines.specs.Parts.{part};
 ghost use Rattle.plain.specs.Plain.{parsedIn};
-ghost use Rattle.plan.specs.After.{moveOf};
 ghost use Rattle.apply.specs.Applied.{tablesOf, rowsOf};
 ghost use Rattle.whole.specs.Accepted.{Ready};
 ghost use Rattle.write.specs.Leaves.{Leaves};
-
-fn moves(kind: u32) -> u32
-    ensures { λ r. ⌜ r ≡ moveOf kind ⌝ }
-{
-    match kind {
-        0 => 0,
-        1 => 1,
-        2 => 1,
-        _ => 2,
-    }
-}
-
-fn own_name(src: &[u8], p: Plain) -> &[u8]
-    ensures { λ r. ⌜ now r ≡ part (now (src .entry)) (p .name .at) (p .name .len) ⌝ }
-{
-    let s = p.name;
-    let at = place(s.at);
-    let len = place(s.len);
-    part_of(src, at, len)
-}
 
 // A known element is kept by its number alone.
 fn name_length(tag: u32, name: &[u8]) -> u32
@@ -101,7 +79,7 @@ pub fn write(
 {
     let m = q.members;
     let w = write_texts(states, members, text, p, src, pl, made, m);
-    let name = own_name(src, pl);
+    let name = bytes_of(src, pl.name);
     let row = name_row(pl.tag, name);
     let length = name_length(pl.tag, name);
     let listed = w.members;

@@ -4,69 +4,47 @@ use borrow.Author.Needs.{needs}
 use Rattle.see.proofs.see.Statement.{statement}
 use Rattle.see.proofs.see.Tie as tie
 
--- src/lib.rt:362:9
 inside-requires : tie.Need-inside-requires
 inside-requires c κs = search needs
 
--- src/lib.rt:365:9
 root-of-requires : tie.Need-root-of-requires
 root-of-requires c κs = search needs
 
--- src/lib.rt:367:16
-cast-open : tie.Need-cast-open
-cast-open c = search needs
+closing-requires : tie.Need-closing-requires
+closing-requires c κs = search needs
 
--- src/lib.rt:368:31
-closes-requires : tie.Need-closes-requires
-closes-requires c κs = search needs
-
--- src/lib.rt:368:9
-close-region-requires : tie.Need-close-region-requires
-close-region-requires c κs = search needs
-
--- src/lib.rt:369:9
 entry-for-requires : tie.Need-entry-for-requires
 entry-for-requires c κs = search needs
 
--- src/lib.rt:370:9
 kin-of-requires : tie.Need-kin-of-requires
 kin-of-requires c κs = search needs
 
--- src/lib.rt:387:15
 walk-for-requires : tie.Need-walk-for-requires
 walk-for-requires c κs = search needs
 
--- src/lib.rt:389:15
 entry-kind-requires : tie.Need-entry-kind-requires
 entry-kind-requires c κs = search needs
 
--- src/lib.rt:390:17
 invoke-for-requires : tie.Need-invoke-for-requires
-invoke-for-requires c κs = c .before .before .before .before .before .before .before .before .before .before .before .before .before .before .pre .2
+invoke-for-requires c κs = c .before .before .before .before .before .before .before .before .before .before .before .before .before .pre .2
 
--- src/lib.rt:391:16
 place-for-requires : tie.Need-place-for-requires
-place-for-requires c κs = c .before .before .before .before .before .before .before .before .before .before .before .before .before .before .before .pre .0
+place-for-requires c κs = c .before .before .before .before .before .before .before .before .before .before .before .before .before .before .pre .0
 
--- src/lib.rt:392:18
 initial-of-requires : tie.Need-initial-of-requires
 initial-of-requires c κs = search needs
 
--- src/lib.rt:393:19
 state-cell-requires : tie.Need-state-cell-requires
 state-cell-requires c κs = search needs
 
--- src/lib.rt:396:17
 initial-of-requires-2 : tie.Need-initial-of-requires-2
 initial-of-requires-2 c κs = search needs
 
--- src/lib.rt:399:14
 initial-of-requires-3 : tie.Need-initial-of-requires-3
 initial-of-requires-3 c κs = search needs
 
--- src/lib.rt:346:1
 returns : tie.Need-returns
-returns c = seen-told (c .before .before .before .before .before .before .before .before .before .before .before .before .before .before .before .before .before .before .before .before .args .kind) (c .before .before .before .before .before .before .before .before .before .before .before .before .before .before .before .before .before .before .before .before .args .tag) (c .before .before .before .before .before .before .before .before .before .before .before .before .before .before .before .before .before .before .before .before .args .own .0) (c .before .before .before .before .before .before .before .before .before .before .before .before .before .before .before .before .before .before .before .before .args .position) (c .before .before .before .before .before .before .before .before .before .before .before .before .before .before .before .before .before .before .before .before .args .chart .now) (c .before .before .before .before .before .before .before .before .before .before .before .before .before .before .before .before .before .before .before .before .args .states .now) (c .before .before .before .before .before .before .before .before .before .before .before .before .before .before .before .before .before .before .before .before .args .transitions .now) (c .before .before .before .before .before .before .before .before .before .before .before .before .before .before .before .before .before .before .before .before .args .entries .now) (c .before .before .before .before .before .before .before .before .before .before .before .before .before .before .before .before .before .before .before .before .args .invokes .now) (c .before .before .before .before .before .before .before .before .before .before .before .before .before .before .before .before .before .before .before .before .args .members .now) (c .before .before .before .before .before .before .before .before .before .before .before .before .before .before .before .before .before .before .before .before .args .opened .now) (c .before .before .before .before .before .before .before .before .before .before .before .before .before .before .before .before .before .before .before .before .args .open-regions .now) (c .before .before .before .before .before .before .before .before .before .before .before .before .before .before .before .before .before .before .before .inside .ensures) (c .before .before .before .before .before .before .before .before .before .before .before .before .before .before .before .before .root-of .ensures) refl (c .before .before .before .before .before .before .before .before .before .before .before .before .before .before .closes .ensures) (c .before .before .before .before .before .before .before .before .before .before .before .before .before .close-region .ensures) (c .before .before .before .before .before .before .before .before .before .before .before .before .entry-for .ensures) (c .before .before .before .before .before .before .before .before .before .before .before .kin-of .ensures) (c .before .before .before .before .before .before .before .walk-for .ensures) (c .before .before .before .before .before .before .entry-kind .ensures) (c .before .before .before .before .before .invoke-for .ensures) (c .before .before .before .before .place-for .ensures) (c .before .before .before .initial-of .ensures) (c .before .before .state-cell .ensures) (c .before .initial-of2 .ensures) (c .initial-of3 .ensures)
+returns c = seen-told (c .before .before .before .before .before .before .before .before .before .before .before .before .before .before .before .before .before .before .before .args .kind) (c .before .before .before .before .before .before .before .before .before .before .before .before .before .before .before .before .before .before .before .args .tag) (c .before .before .before .before .before .before .before .before .before .before .before .before .before .before .before .before .before .before .before .args .own .0) (c .before .before .before .before .before .before .before .before .before .before .before .before .before .before .before .before .before .before .before .args .position) (c .before .before .before .before .before .before .before .before .before .before .before .before .before .before .before .before .before .before .before .args .chart .now) (c .before .before .before .before .before .before .before .before .before .before .before .before .before .before .before .before .before .before .before .args .states .now) (c .before .before .before .before .before .before .before .before .before .before .before .before .before .before .before .before .before .before .before .args .transitions .now) (c .before .before .before .before .before .before .before .before .before .before .before .before .before .before .before .before .before .before .before .args .entries .now) (c .before .before .before .before .before .before .before .before .before .before .before .before .before .before .before .before .before .before .before .args .invokes .now) (c .before .before .before .before .before .before .before .before .before .before .before .before .before .before .before .before .before .before .before .args .members .now) (c .before .before .before .before .before .before .before .before .before .before .before .before .before .before .before .before .before .before .before .args .opened .now) (c .before .before .before .before .before .before .before .before .before .before .before .before .before .before .before .before .before .before .before .args .open-regions .now) (c .before .before .before .before .before .before .before .before .before .before .before .before .before .before .before .before .before .before .inside .ensures) (c .before .before .before .before .before .before .before .before .before .before .before .before .before .before .before .root-of .ensures) refl refl (c .before .before .before .before .before .before .before .before .before .before .before .before .before .closing .ensures) (c .before .before .before .before .before .before .before .before .before .before .before .before .entry-for .ensures) (c .before .before .before .before .before .before .before .before .before .before .before .kin-of .ensures) (c .before .before .before .before .before .before .before .walk-for .ensures) (c .before .before .before .before .before .before .entry-kind .ensures) (c .before .before .before .before .before .invoke-for .ensures) (c .before .before .before .before .place-for .ensures) (c .before .before .before .initial-of .ensures) (c .before .before .state-cell .ensures) (c .before .initial-of2 .ensures) (c .initial-of3 .ensures)
 
 pub see-spec : {M : Type 1} → statement M
 see-spec =
@@ -74,9 +52,7 @@ see-spec =
     (tie.spec
     inside-requires
     root-of-requires
-    cast-open
-    closes-requires
-    close-region-requires
+    closing-requires
     entry-for-requires
     kin-of-requires
     walk-for-requires

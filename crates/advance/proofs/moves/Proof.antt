@@ -1,10 +1,10 @@
-use Rattle.write.proofs.Laws.{moves-at, moves-rest}
+use Rattle.advance.proofs.Laws.{moves-at, moves-rest}
 use mathlib.Core.Path.{refl}
 use Rattle.plan.specs.After.{moveOf}
-use Rattle.write.proofs.moves.Statement.{statement}
-use Rattle.write.proofs.moves.Tie as tie
-use Rattle.write.proofs.moves.Reads as reads
-use Rattle.write.proofs.moves.Lts as lts
+use Rattle.advance.proofs.moves.Statement.{statement}
+use Rattle.advance.proofs.moves.Tie as tie
+use Rattle.advance.proofs.moves.Reads as reads
+use Rattle.advance.proofs.moves.Lts as lts
 
 returns : tie.Need-returns
 returns c = moves-at (c .before .args .kind) 0 0 (c .match .keys1) (unfold moveOf in refl)
