@@ -238,7 +238,6 @@ fn feed_described(
     ensures { λ r. ⌜ Answers (lent (tables (now (chart .entry)) (now (states .entry)) (now (transitions .entry)) (now (regions .entry)) (now (entries .entry)) (now (invokes .entry)) (now (datums .entry)) (now (parameters .entry)) (now (members .entry)) (now (opened .entry)) (now (names .entry)) (now (pending .entry))) (now (text .entry))) p (parsedRaw (now (raw .entry)) d) (given (r .number) (r .position) (lent (tables (now (chart .exit)) (now (states .exit)) (now (transitions .exit)) (now (regions .exit)) (now (entries .exit)) (now (invokes .exit)) (now (datums .exit)) (now (parameters .exit)) (now (members .exit)) (now (opened .exit)) (now (names .exit)) (now (pending .exit))) (now (text .exit)))) ⌝ }
 {
     if is_plain(d) {
-        let pl = plain_of(d);
         return feed_parsed(
             chart,
             states,
@@ -255,7 +254,7 @@ fn feed_described(
             text,
             p,
             raw,
-            pl,
+            plain_of(d),
         );
     }
     feed_copy(
