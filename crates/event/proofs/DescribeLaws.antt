@@ -1,35 +1,137 @@
 -- The end of a description.
-use Prim.Native.Nat.{ℕ, zero, suc}
-use mathlib.Core.Path.{_≡_, refl, sym, ap, _∙_}
-use mathlib.Core.Bool.{Bool, true, false}
+use Prim.Native.Nat.{ℕ, zero, suc, _-_, _≤_, _<_}
+use mathlib.Core.Path.{_≡_, refl, sym, ap, ap₂, _∙_, subst}
+use mathlib.Core.Bool.{Bool, true, false, _||_}
+use mathlib.Core.Option.{Option}
 use mathlib.Core.List.{List}
-use lib.ListN.{take}
-use Rattle.definition.specs.Elements.{holdsText}
+use lib.Dec.{eqb}
+use lib.ListN.{length, take, drop}
+use lib.Seq.{take-all}
+use borrow.Author.Tests.{ne-eqb, eqb-false}
+use native.Mathlib.Omega.{arith}
+use Rattle.definition.specs.Elements.{keyOf, holdsText}
+use Rattle.definition.specs.Event.{Attribute, readEvent}
+use Rattle.definition.proofs.Base.{true-is-false}
+use Rattle.lines.specs.Parts.{orNothing}
+use Rattle.parts.specs.declared.Pair.{Pair}
+use Rattle.walk.specs.Reads.{Pairs, no-pairs, pair}
+use Rattle.walk.proofs.TakenLaw as T
+use Rattle.walk.proofs.TakenLaw.{Taken, taken-law}
 use Rattle.parts.specs.declared.Walked.{Walked}
+use Rattle.lines.specs.Lines.{eventLength}
+use Rattle.parts.specs.Parts.{begun, broken}
+use Rattle.walk.specs.declared.Walk.{Walk}
 use Rattle.walk.specs.Walk.{walked}
+use Rattle.walk.specs.Stream.{firstEvent, settled, outcome}
+use Rattle.walk.proofs.WalkLaw.{Stopped, TextReads, walk-no-text, walk-text}
+use Rattle.walk.proofs.StreamLaws.{event-within, settled-out, settled-in}
+use Rattle.walk.proofs.SecondEvent.{second-event}
 use Rattle.event.specs.declared.Described.{Described}
-use Rattle.event.specs.Described.{blank, descriptionOf, shapeFits, inShape, pairKeys, allDiffer, finished, described}
+use Rattle.event.specs.declared.Next.{Next}
+use Rattle.event.specs.Described.{Coded, read, blank, descriptionOf, shapeFits, inShape, pairKeys, allDiffer, finished, described}
 use Rattle.event.proofs.EventLaw.{finish-out, finish-in}
 
-module _ (raw : List ℕ) (w : Walked) (ew : w ≡ walked raw) where
-  whole : {d : Described} → d ≡ finished raw w → d ≡ described raw
-  unfolding described
-  whole e = e ∙ ap (finished raw) ew
+-- ---- the end of a walk
 
-  module _ (holds : Bool) (eh : holds ≡ holdsText (w .tag)) {s : Bool} (es : s ≡ shapeFits (w .kind) (w .next) (w .count) holds) where
-    shape-is : inShape w ≡ s
+shape-next : (k n c : ℕ) (h : Bool) → eqb n 2 ≡ false → eqb n 4 ≡ false → shapeFits k n c h ≡ false
+unfolding shapeFits
+shape-next zero n c h a b = rw a
+shape-next (suc zero) n c h a b = a
+shape-next (suc (suc zero)) n c h a b = rw b
+shape-next (suc (suc (suc zero))) n c h a b = rw a
+shape-next (suc (suc (suc (suc k)))) n c h a b = refl
+
+-- An event that awaits a line, or is out of form.
+pub stopped-out : (raw : List ℕ) (w : Walked) → Stopped w → finished raw w ≡ blank 3
+unfolding inShape
+stopped-out raw w s = finish-out raw w (shape-next (w .kind) (w .next) (w .count) (holdsText (w .tag)) (ne-eqb (w .next) 2 (s .0)) (ne-eqb (w .next) 4 (s .1)))
+
+settled-finished : (raw : List ℕ) (w : Walked) → finished raw (settled w) ≡ finished raw w
+unfolding settled broken
+settled-finished raw w = go (eqb (w .next) 2) refl (eqb (w .next) 4) refl
+  where
+    go : (p : Bool) → eqb (w .next) 2 ≡ p → (q : Bool) → eqb (w .next) 4 ≡ q → finished raw (settled w) ≡ finished raw w
+    go true e q f = let z : settled w ≡ w = rw (e, settled) in ap (finished raw) z
+    go false e true f = let z : settled w ≡ w = rw (e, f, settled) in ap (finished raw) z
+    go false e false f =
+        let z : settled w ≡ broken begun = rw (e, f, settled) in
+        ap (finished raw) z ∙ stopped-out raw (broken begun) ((λ g. omega (arith, g)), (λ g. omega (arith, g))) ∙ sym (stopped-out raw w (eqb-false (w .next) 2 e, eqb-false (w .next) 4 f))
+
+-- ---- the numbers of keys
+
+pairs-coded : {raw : List ℕ} {ps : List Pair} {ats : List Attribute} → Pairs raw ps ats → Coded raw ps
+unfolding Coded read orNothing
+pairs-coded no-pairs = tt
+pairs-coded (pair {p} {a} r h) = (r .code ∙ ap keyOf (sym (ap orNothing (r .key .shown))), pairs-coded h)
+
+complete : {raw : List ℕ} {d : Walked} {t : Option (List ℕ)} → TextReads raw d t → (eqb (d .next) 2 || eqb (d .next) 4) ≡ true
+complete (walk-no-text e) = ap (λ (m : ℕ). eqb m 2 || eqb m 4) e
+complete (walk-text v e r) = ap (λ (m : ℕ). eqb m 2 || eqb m 4) e
+
+coded-walk : (raw : List ℕ) (w : Walked) → w ≡ settled (walked raw) → inShape w ≡ true → Coded raw (take (w .count) (w .pairs))
+unfolding inShape shapeFits broken begun
+coded-walk raw w e f = go (taken-law raw)
+  where
+    out : Stopped (walked raw) → Coded raw (take (w .count) (w .pairs))
+    out st = true-is-false (sym f ∙ ap inShape (e ∙ settled-out (walked raw) st))
+
+    go : Taken raw (walked raw) (readEvent raw) → Coded raw (take (w .count) (w .pairs))
+    go (T.whole ev o wi ca) =
+        subst (λ (y : Walked). Coded raw (take (y .count) (y .pairs))) (sym (e ∙ settled-in (walked raw) (complete (ca .text)))) (pairs-coded (ca .pairs))
+    go (T.too-long st h) = out st
+    go (T.none-of st h) = out st
+
+-- ---- what the code answers
+
+module _ (s raw : List ℕ) (x : Walk) (ex : x ≡ outcome s) (er : raw ≡ firstEvent s) where
+  abbrev w : Walked
+  w = x .walked
+
+  pub end-is : x .end ≡ eventLength s
+  end-is = ap (λ (y : Walk). y .end) ex
+
+  whole : {d : Described} → d ≡ finished raw w → d ≡ described (firstEvent s)
+  unfolding described
+  whole e = e ∙ ap₂ finished er (ap (λ (y : Walk). y .walked) ex) ∙ settled-finished (firstEvent s) (walked (firstEvent s))
+
+  module _ (holds : Bool) (eh : holds ≡ holdsText (w .tag)) {b : Bool} (es : b ≡ shapeFits (w .kind) (w .next) (w .count) holds) where
+    shape-is : inShape w ≡ b
     unfolding inShape
     shape-is = sym (es ∙ ap (shapeFits (w .kind) (w .next) (w .count)) eh)
 
-    pub end-shape : s ≡ false → blank 3 ≡ described raw
-    end-shape f = whole (sym (finish-out raw w (shape-is ∙ f)))
+    pub coded-in : b ≡ true → Coded raw (take (w .count) (w .pairs))
+    coded-in f = coded-walk raw w (ap (λ (y : Walk). y .walked) ex ∙ ap (λ (y : List ℕ). settled (walked y)) (sym er)) (shape-is ∙ f)
 
-    module _ (f : s ≡ true) {k : Bool} (ek : k ≡ allDiffer (pairKeys raw (take (w .count) (w .pairs)))) where
-      pub end-keys : k ≡ false → blank 4 ≡ described raw
-      end-keys g = whole (sym (finish-in raw w (shape-is ∙ f) false (sym ek ∙ g)))
+    -- The description d, with the end.
+    module _ (d : Described) (r : Next) (e : r ≡ record { event = d; end = x .end }) where
+      answer : d ≡ finished raw w → (r .event ≡ described (firstEvent s)) × (r .end ≡ eventLength s)
+      answer f = (ap (λ (y : Next). y .event) e ∙ whole f, ap (λ (y : Next). y .end) e ∙ end-is)
 
-      pub end-good : k ≡ true → descriptionOf w ≡ described raw
-      end-good g = whole (sym (finish-in raw w (shape-is ∙ f) true (sym ek ∙ g)))
+      pub end-shape : d ≡ blank 3 → b ≡ false → (r .event ≡ described (firstEvent s)) × (r .end ≡ eventLength s)
+      end-shape ed f = answer (ed ∙ sym (finish-out raw w (shape-is ∙ f)))
+
+      module _ (f : b ≡ true) {k : Bool} (ek : k ≡ allDiffer (pairKeys raw (take (w .count) (w .pairs)))) where
+        pub end-keys : d ≡ blank 4 → k ≡ false → (r .event ≡ described (firstEvent s)) × (r .end ≡ eventLength s)
+        end-keys ed g = answer (ed ∙ sym (finish-in raw w (shape-is ∙ f) false (sym ek ∙ g)))
+
+        pub end-good : d ≡ descriptionOf w → k ≡ true → (r .event ≡ described (firstEvent s)) × (r .end ≡ eventLength s)
+        end-good ed g = answer (ed ∙ sym (finish-in raw w (shape-is ∙ f) true (sym ek ∙ g)))
+
+-- The bytes of the first event, cut out.
+module _ (s : List ℕ) (x : Walk) (ex : x ≡ outcome s) where
+  ends-at : x .end ≡ eventLength s
+  ends-at = ap (λ (y : Walk). y .end) ex
+
+  pub end-within : x .end ≤ length s
+  end-within = omega (arith, ends-at, event-within s)
+
+  pub cut-out : take (x .end - 0) (drop 0 s) ≡ firstEvent s
+  cut-out = let z : x .end - 0 ≡ eventLength s = omega (arith, ends-at) in ap (λ (n : ℕ). take n s) z
+
+-- Bytes in which a second event begins are out of form.
+pub out-of-one : (raw : List ℕ) → eventLength raw < length raw → blank 3 ≡ described raw
+unfolding described
+out-of-one raw h = sym (stopped-out raw (walked raw) (second-event raw h))
 
 -- ---- the kind
 

@@ -1,11 +1,12 @@
 -- An event's bytes taken apart: what the walk over its lines has brought, if the event is in form and its keys are different.
 use Prim.Native.Nat.{ℕ, zero, suc, _+_}
+use mathlib.Core.Path.{_≡_}
 use mathlib.Core.Bool.{Bool, true, false, _&&_, not}
 use mathlib.Core.List.{List, [], _∷_}
 use lib.ListN.{take, replicate}
 use lib.Dec.{eqb}
 use Rattle.definition.specs.Text.{same}
-use Rattle.definition.specs.Elements.{holdsText}
+use Rattle.definition.specs.Elements.{keyOf, holdsText}
 use Rattle.definition.specs.Event.{legible}
 use Rattle.lines.specs.Parts.{part, orNothing}
 use Rattle.parts.specs.declared.Part.{Part}
@@ -61,6 +62,12 @@ inShape w = shapeFits (w .kind) (w .next) (w .count) (holdsText (w .tag))
 unfoldable pub read : List ℕ → Part → List ℕ
 unfolding part orNothing legible
 read raw p = orNothing (legible (part raw (p .at) (p .len)))
+
+-- Each pair has its key's number.
+unfoldable pub Coded : List ℕ → List Pair → Type 0
+unfolding read
+Coded raw [] = Unit
+Coded raw (p ∷ ps) = (p .code ≡ keyOf (read raw (p .key))) × Coded raw ps
 
 unfoldable pub pairKeys : List ℕ → List Pair → List (List ℕ)
 unfolding read

@@ -11,8 +11,11 @@ use walk::walk_lines;
 ghost use mathlib.Core.Path.{_≡_};
 ghost use Prim.Native.Nat.{_+_, _<_};
 ghost use lib.ListN.{getD, take, drop};
-ghost use Rattle.parts.specs.Parts.{noPair};
-ghost use Rattle.event.specs.Described.{blank, descriptionOf, shapeFits, read, pairKeys, isAmong, allDiffer, described};
+ghost use Rattle.lines.specs.Lines.{eventLength};
+ghost use Rattle.parts.specs.Parts.{noPair, atMost16};
+ghost use Rattle.definition.specs.Text.{same};
+ghost use Rattle.definition.specs.Elements.{keyOf};
+ghost use Rattle.event.specs.Described.{Coded, blank, descriptionOf, shapeFits, read, pairKeys, isAmong, allDiffer, described};
 
 // An event's bytes taken apart: its kind from 0 and its element's number, and the first `count` of `pairs` are its attributes, in order. Of kind 2,
 // `whole`, `text` is the text. A refused event has the number of the question that is answered no, and zeros.
@@ -90,24 +93,35 @@ fn shape_fits(kind: u32, next: u32, count: usize, holds: bool) -> bool
     false
 }
 
+// Whether two pairs have the same key. Keys with different numbers are different, so texts are compared for unknown keys only, or where a key is repeated.
+fn same_key(raw: &[u8], p: Pair, q: Pair) -> bool
+    requires { ⌜ p .code ≡ keyOf (read (now raw) (p .key)) ⌝ }
+    requires { ⌜ q .code ≡ keyOf (read (now raw) (q .key)) ⌝ }
+    ensures { λ r. ⌜ r ≡ same (read (now (raw .entry)) (q .key)) (read (now (raw .entry)) (p .key)) ⌝ }
+{
+    if p.code != q.code {
+        return false;
+    }
+    let at = place(p.key.at);
+    let len = place(p.key.len);
+    let from = place(q.key.at);
+    let long = place(q.key.len);
+    same_text(part_of(raw, from, long), part_of(raw, at, len))
+}
+
 // Whether the key of pair `i` is the key of a later one.
 fn key_repeats(raw: &[u8], w: Walked, i: usize) -> bool
-    requires { ⌜ i < 16 ⌝ }
+    requires { ⌜ i < atMost16 (w .count) ⌝ }
+    requires { ⌜ Coded (now raw) (drop i (take (w .count) (w .pairs))) ⌝ }
     ensures { λ r. ⌜ r ≡ isAmong (read (now (raw .entry)) (getD (w .pairs) i noPair .key)) (pairKeys (now (raw .entry)) (drop (i + 1) (take (w .count) (w .pairs)))) ⌝ }
 {
     let count = w.count;
     let pairs = w.pairs;
     let p = pairs[i];
-    let at = place(p.key.at);
-    let len = place(p.key.len);
-    let key = part_of(raw, at, len);
     let n = at_most_16(count);
     let mut j = i + 1;
     while j < n {
-        let q = pairs[j];
-        let from = place(q.key.at);
-        let long = place(q.key.len);
-        if same_text(part_of(raw, from, long), key) {
+        if same_key(raw, p, pairs[j]) {
             return true;
         }
         j += 1;
@@ -115,14 +129,15 @@ fn key_repeats(raw: &[u8], w: Walked, i: usize) -> bool
     false
 }
 
-// Whether the keys of the pairs are different.
+// Whether the keys of the pairs are different: the last one has no later one.
 fn keys_differ(raw: &[u8], w: Walked) -> bool
+    requires { ⌜ Coded (now raw) (take (w .count) (w .pairs)) ⌝ }
     ensures { λ r. ⌜ r ≡ allDiffer (pairKeys (now (raw .entry)) (take (w .count) (w .pairs))) ⌝ }
 {
     let count = w.count;
     let n = at_most_16(count);
     let mut i = 0;
-    while i < n {
+    while i + 1 < n {
         if key_repeats(raw, w, i) {
             return false;
         }
@@ -131,20 +146,38 @@ fn keys_differ(raw: &[u8], w: Walked) -> bool
     true
 }
 
-// An event's bytes taken apart.
-pub fn describe(raw: &[u8]) -> Described
-    ensures { λ r. ⌜ r ≡ described (now (raw .entry)) ⌝ }
+// A stream's first event, and where it ends.
+pub struct Next {
+    pub event: Described,
+    pub end: usize,
+}
+
+fn next_of(event: Described, end: usize) -> Next
+    ensures { λ r. ⌜ r ≡ record { event = event; end = end } ⌝ }
 {
-    let w = walk_lines(raw);
+    Next {
+        event: event,
+        end: end,
+    }
+}
+
+// The first event of a stream taken apart: it runs to the next line that begins `event=`, or to the end.
+pub fn describe_next(stream: &[u8]) -> Next
+    ensures event { λ r. ⌜ r .event ≡ described (take (eventLength (now (stream .entry))) (now (stream .entry))) ⌝ }
+    ensures end { λ r. ⌜ r .end ≡ eventLength (now (stream .entry)) ⌝ }
+{
+    let x = walk_lines(stream);
+    let w = x.walked;
+    let end = x.end;
     let kind = w.kind;
     let next = w.next;
     let count = w.count;
     let holds = holds_text(w.tag);
     if !shape_fits(kind, next, count, holds) {
-        return blank_with(3);
+        return next_of(blank_with(3), end);
     }
-    if !keys_differ(raw, w) {
-        return blank_with(4);
+    if !keys_differ(&stream[0..end], w) {
+        return next_of(blank_with(4), end);
     }
-    description_of(w)
+    next_of(description_of(w), end)
 }

@@ -1,21 +1,23 @@
 -- What passing blocks of bytes needs of the definitions: it is passing their bytes one by one.
-use Prim.Native.Nat.{ℕ, zero, suc, _+_, _≤_, _<_}
-use mathlib.Core.Path.{_≡_, sym, ap, _∙_}
-use mathlib.Core.Bool.{Bool, true, _&&_, not, and-assoc, and-true, and-eq-true-iff}
+use Prim.Native.Nat.{ℕ, zero, suc, _+_, _-_, _≤_, _<_}
+use mathlib.Core.Path.{_≡_, refl, sym, ap, _∙_, subst}
+use mathlib.Core.Bool.{Bool, true, false, _&&_, not, and-assoc, and-true, and-eq-true-iff}
 use mathlib.Core.List.{List, [], _∷_, _++_}
 use native.Mathlib.Omega.{arith}
 use lib.Dec.{eqb}
-use lib.ListN.{length, getD, drop, length-drop}
-use lib.Seq.{take-suc, getD-drop}
-use borrow.Author.Tests.{not-true, eqb-false, ltb-true}
+use lib.ListN.{length, getD, take, drop, length-drop}
+use lib.Seq.{take-suc, getD-drop, drop-drop, take-all}
+use borrow.Author.Tests.{not-true, not-false, eqb-false, ltb-true}
 use Rattle.definition.specs.Text.{isAllowed}
 use Rattle.definition.specs.Event.{legible}
+use Rattle.definition.proofs.Base.{true-is-false}
+use Rattle.lines.specs.declared.Tail.{Tail}
 use Rattle.lines.specs.Lines.{lineLength}
-use Rattle.lines.specs.Escapes.{counted}
+use Rattle.lines.specs.Escapes.{counted, scanned}
 use Rattle.lines.specs.Parts.{part}
 use Rattle.lines.specs.Blocks.{all, isWithinLine, isPlain}
 use Rattle.lines.proofs.LineLaws.{line-more}
-use Rattle.lines.proofs.EscapeLaws.{width-plain, scan-more}
+use Rattle.lines.proofs.EscapeLaws.{width-plain, scan-more, scan-end}
 
 module _ (p : ℕ → Bool) where
   all-snoc : (l : List ℕ) (b : ℕ) → all p (l ++ b ∷ []) ≡ (all p l && p b)
@@ -50,6 +52,63 @@ module _ (p : ℕ → Bool) where
         let z : i + suc n ≡ i + n + 1 = omega arith in
         rw z (step (i + n) m (g .1) ∙ past-block f step n (omega arith) (g .0))
 
+  all-join : (n m : ℕ) (t : List ℕ) → all p (take n t) ≡ true → all p (take m (drop n t)) ≡ true → all p (take (n + m) t) ≡ true
+  unfolding all
+  all-join zero m t e f = let z : 0 + m ≡ m = omega arith in rw z f
+  all-join (suc n) m [] e f = let z : suc n + m ≡ suc (n + m) = omega arith in rw z refl
+  all-join (suc n) m (b ∷ bs) e f =
+      let g : (p b ≡ true) × (all p (take n bs) ≡ true) = and-eq-true-iff _ _ .0 e in
+      let z : suc n + m ≡ suc (n + m) = omega arith in
+      rw z (and-eq-true-iff _ _ .1 (g .0, all-join n m bs (g .1) f))
+
+  all-fewer : (n m : ℕ) (t : List ℕ) → n ≤ m → all p (take m t) ≡ true → all p (take n t) ≡ true
+  unfolding all
+  all-fewer zero m t h e = refl
+  all-fewer (suc n) m [] h e = refl
+  all-fewer (suc n) zero (b ∷ bs) h e = absurd (omega arith)
+  all-fewer (suc n) (suc m) (b ∷ bs) h e =
+      let g : (p b ≡ true) × (all p (take m bs) ≡ true) = and-eq-true-iff _ _ .0 e in
+      and-eq-true-iff _ _ .1 (g .0, all-fewer n m bs (omega arith) (g .1))
+
+  module _ (s : List ℕ) (from i n : ℕ) (k : from ≤ i) (e : all p (part s from (i - from)) ≡ true) (f : all p (part s i n) ≡ true) where
+    -- Of the bytes passed, and of a block more.
+    pub all-on : all p (part s from (i + n - from)) ≡ true
+    unfolding part
+    all-on =
+        let z : i + n - from ≡ i - from + n = omega arith in
+        let y : from + (i - from) ≡ i = omega arith in
+        let w : drop (i - from) (drop from s) ≡ drop i s = drop-drop (i - from) from s ∙ ap (λ (x : ℕ). drop x s) y in
+        rw z (all-join (i - from) n (drop from s) e (ap (λ (x : List ℕ). all p (take n x)) w ∙ f))
+
+    pub all-up : (m : ℕ) → from + m ≤ i + n → all p (part s from m) ≡ true
+    unfolding part
+    all-up m h = all-fewer m (i + n - from) (drop from s) (omega arith) all-on
+
+  -- Two blocks, one behind the other.
+  pub both-blocks : (s : List ℕ) (i n : ℕ) (a b : Bool) → a ≡ all p (part s i n) → b ≡ all p (part s (i + n) n) → not (a && b) ≡ false → all p (part s i (n + n)) ≡ true
+  unfolding part
+  both-blocks s i n a b ea eb e =
+      let g : (a ≡ true) × (b ≡ true) = and-eq-true-iff _ _ .0 (not-false _ e) in
+      all-join n n (drop i s) (sym ea ∙ g .0) (ap (λ (x : List ℕ). all p (take n x)) (drop-drop n i s) ∙ (sym eb ∙ g .1))
+
+-- A block that is not within a line has the line's end.
+line-in : (n : ℕ) (t : List ℕ) → all isWithinLine (take n t) ≡ false → (lineLength t < n) × (lineLength t < length t)
+unfolding all isWithinLine lineLength
+line-in zero t e = true-is-false e
+line-in (suc n) [] e = true-is-false e
+line-in (suc n) (b ∷ bs) e = go (eqb b 10) refl (line-in n bs)
+  where
+    go : (p : Bool) → eqb b 10 ≡ p → (all isWithinLine (take n bs) ≡ false → (lineLength bs < n) × (lineLength bs < length bs)) → (lineLength (b ∷ bs) < suc n) × (lineLength (b ∷ bs) < suc (length bs))
+    go true q ih = rw (q, lineLength) (omega arith, omega arith)
+    go false q ih =
+        let z : all isWithinLine (take n bs) ≡ false = sym (ap (λ (x : Bool). not x && all isWithinLine (take n bs)) q) ∙ e in
+        let r = ih z in
+        rw (q, lineLength) (omega (arith, r .0), omega (arith, r .1))
+
+pub ends-in : (s : List ℕ) (i n : ℕ) → i < length s → all isWithinLine (part s i n) ≡ false → (lineLength (drop i s) < n) × (i + lineLength (drop i s) < length s)
+unfolding part
+ends-in s i n h e = let r = line-in n (drop i s) e in (r .0, omega (arith, r .1, length-drop i s))
+
 module _ (s : List ℕ) (i n : ℕ) (h : i + n ≤ length s) where
   pub line-past : all isWithinLine (part s i n) ≡ true → i + n + lineLength (drop (i + n) s) ≡ i + lineLength (drop i s)
   unfolding isWithinLine
@@ -63,3 +122,22 @@ module _ (s : List ℕ) (i n : ℕ) (h : i + n ≤ length s) where
       step j l e =
           let g : (not (eqb (getD s j 0) 92) ≡ true) × (isAllowed (getD s j 0) ≡ true) = and-eq-true-iff _ _ .0 e in
           scan-more s j j l (width-plain s j l (eqb-false _ _ (not-true _ (g .0))) (ltb-true _ _ (g .1))) (λ z. omega arith)
+
+-- What is plain is legible as it is written.
+pub scanned-plain : (x : List ℕ) → all isPlain x ≡ true → record { ok = true; len = length x } ≡ scanned x
+unfolding scanned part
+scanned-plain x e =
+    let z : take (length x) x ≡ x = take-all (length x) x (omega arith) in
+    let y : 0 + length x ≡ length x = omega arith in
+    scan-end x (length x) (length x) (omega arith) ∙ subst (λ (n : ℕ). counted n (legible (drop n x)) ≡ scanned x) y (scan-past x 0 (length x) (omega arith) (ap (all isPlain) z ∙ e))
+
+-- ---- what follows a head
+
+module _ (s : List ℕ) (from : ℕ) (r : Tail) (e : ℕ) (g : e ≡ from + lineLength (drop from s)) where
+  pub tail-unknown : r ≡ record { end = e; plain = false }
+      → (r .end ≡ from + lineLength (drop from s)) × (r .plain ≡ true → all isPlain (part s from (lineLength (drop from s))) ≡ true)
+  tail-unknown f = (ap (λ (x : Tail). x .end) f ∙ g, λ p. true-is-false (sym p ∙ ap (λ (x : Tail). x .plain) f))
+
+  pub tail-plain : r ≡ record { end = e; plain = true } → all isPlain (part s from (lineLength (drop from s))) ≡ true
+      → (r .end ≡ from + lineLength (drop from s)) × (r .plain ≡ true → all isPlain (part s from (lineLength (drop from s))) ≡ true)
+  tail-plain f h = (ap (λ (x : Tail). x .end) f ∙ g, λ p. h)

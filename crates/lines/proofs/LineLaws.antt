@@ -1,6 +1,6 @@
 -- What the loops over lines and heads need of the definitions, at a part of a list that starts at i.
 use mathlib.Core.Path.{_≡_, refl, sym, ap, _∙_, subst}
-use mathlib.Core.Bool.{Bool, true, false, _&&_, and-eq-true-iff}
+use mathlib.Core.Bool.{Bool, true, false, _&&_, and-assoc, and-true, and-eq-true-iff}
 use mathlib.Core.Option.{none}
 use mathlib.Core.List.{List, [], _∷_, _++_, append-nil, append-assoc}
 use Prim.Native.Nat.{ℕ, suc, _+_, _-_, _≤_, _<_}
@@ -8,8 +8,8 @@ use native.Mathlib.Numerals.{add-one}
 use native.Mathlib.Omega.{arith}
 use lib.Dec.{eqb}
 use lib.ListN.{length, getD, take, drop, drop-of-length-le, length-drop}
-use lib.Seq.{drop-cons, drop-drop, take-all}
-use borrow.Author.Tests.{ne-eqb, eq-eqb}
+use lib.Seq.{drop-cons, drop-drop}
+use borrow.Author.Tests.{ne-eqb, eq-eqb, eqb-true, eqb-false}
 use Rattle.definition.specs.Text.{str}
 use Rattle.definition.specs.Event.{after, beginsEvent, flush, cut, eventsOf}
 use Rattle.lines.specs.Lines.{lineLength, hasHead, restLength, eventLength}
@@ -35,25 +35,52 @@ pub head-other : (x y : ℕ) (h l : List ℕ) → eqb x y ≡ false → hasHead 
 unfolding hasHead after
 head-other x y h l e = let z : after (x ∷ h) (y ∷ l) ≡ none = rw (e, after) in rw (z, hasHead)
 
-module _ (h l : List ℕ) (i : ℕ) where
-  pub head-more : i < length h → i < length l → getD h i 0 ≡ getD l i 0 → hasHead (drop (i + 1) h) (drop (i + 1) l) ≡ hasHead (drop i h) (drop i l)
-  head-more p q e = rw (drop-cons h i 0 p, drop-cons l i 0 q, add-one) (sym (head-next _ _ (drop (suc i) h) (drop (suc i) l) (eq-eqb _ _ e)))
+short-head : (h l : List ℕ) → length l < length h → hasHead h l ≡ false
+unfolding hasHead after
+short-head [] l k = absurd (omega arith)
+short-head (x ∷ h) [] k = refl
+short-head (x ∷ h) (y ∷ l) k = go (eqb x y) refl (short-head h l (omega arith))
+  where
+    go : (p : Bool) → eqb x y ≡ p → hasHead h l ≡ false → hasHead (x ∷ h) (y ∷ l) ≡ false
+    go true e ih = head-next x y h l e ∙ ih
+    go false e ih = head-other x y h l e
 
-  pub head-short : i < length h → length l ≤ i → hasHead (drop i h) (drop i l) ≡ false
-  unfolding hasHead after
-  head-short p q = rw (drop-cons h i 0 p, drop-of-length-le l q)
+module _ (s : List ℕ) (i : ℕ) where
+  pub no-head : (h : List ℕ) → i ≤ length s → length s - i < length h → false ≡ hasHead h (drop i s)
+  no-head h l k = sym (short-head h (drop i s) (omega (arith, length-drop i s)))
 
-  pub head-stop : i < length h → i < length l → (getD h i 0 ≡ getD l i 0 → ⊥) → hasHead (drop i h) (drop i l) ≡ false
-  head-stop p q e = rw (drop-cons h i 0 p, drop-cons l i 0 q) (head-other _ _ (drop (suc i) h) (drop (suc i) l) (ne-eqb _ _ e))
+  head-step : (x : ℕ) (h : List ℕ) (j : ℕ) → j < length s → hasHead (x ∷ h) (drop j s) ≡ (eqb (getD s j 0) x && hasHead h (drop (suc j) s))
+  head-step x h j l = go (eqb (getD s j 0) x) refl
+    where
+      go : (p : Bool) → eqb (getD s j 0) x ≡ p → hasHead (x ∷ h) (drop j s) ≡ (eqb (getD s j 0) x && hasHead h (drop (suc j) s))
+      go true e = rw (e, drop-cons s j 0 l) (head-next x (getD s j 0) h (drop (suc j) s) (eq-eqb x (getD s j 0) (sym (eqb-true (getD s j 0) x e))))
+      go false e = rw (e, drop-cons s j 0 l) (head-other x (getD s j 0) h (drop (suc j) s) (ne-eqb x (getD s j 0) (λ f. eqb-false (getD s j 0) x e (sym f))))
 
-  pub head-end : length h ≤ i → hasHead (drop i h) (drop i l) ≡ true
-  unfolding hasHead after
-  head-end p = rw (drop-of-length-le h p)
+  -- A head compared byte by byte, as code writes it that looks at each of them: k bytes are found to be p.
+  unfoldable pub compared : List ℕ → ℕ → Bool → Bool
+  compared [] k p = p
+  compared (x ∷ h) k p = compared h (suc k) (p && eqb (getD s (i + k) 0) x)
+
+  compared-head : (h : List ℕ) (k : ℕ) (p : Bool) → i + k + length h ≤ length s → compared h k p ≡ (p && hasHead h (drop (i + k) s))
+  unfolding compared hasHead after
+  compared-head [] k p l = sym (and-true p)
+  compared-head (x ∷ h) k p l =
+      let z : i + suc k ≡ suc (i + k) = omega arith in
+      compared-head h (suc k) (p && eqb (getD s (i + k) 0) x) (omega arith)
+      ∙ and-assoc p (eqb (getD s (i + k) 0) x) (hasHead h (drop (i + suc k) s))
+      ∙ ap (λ (q : Bool). p && q) (ap (λ (n : ℕ). eqb (getD s (i + k) 0) x && hasHead h (drop n s)) z ∙ sym (head-step x h (i + k) (omega arith)))
+
+  pub head-at : (x : ℕ) (h : List ℕ) → i + suc (length h) ≤ length s → compared h 1 (eqb (getD s i 0) x) ≡ hasHead (x ∷ h) (drop i s)
+  head-at x h l =
+      let z : i + 1 ≡ suc i = omega arith in
+      compared-head h 1 (eqb (getD s i 0) x) (omega arith)
+      ∙ ap (λ (n : ℕ). eqb (getD s i 0) x && hasHead h (drop n s)) z
+      ∙ sym (head-step x h i (omega arith))
 
 -- ---- a stream
 
 -- Where no line begins, the rest is as long as an event.
-rest-event : (l : List ℕ) → restLength false l ≡ eventLength l
+pub rest-event : (l : List ℕ) → restLength false l ≡ eventLength l
 unfolding restLength eventLength
 rest-event [] = refl
 rest-event (b ∷ bs) = refl
@@ -86,12 +113,12 @@ line-next b bs e = go (eqb b 10) refl
     go true q = rw (q, eventLength)
     go false q = let z : suc (lineLength bs) ≡ 0 = rw (q, lineLength) at e in absurd (omega arith)
 
-rest-begun : (l : List ℕ) → beginsEvent l ≡ true → restLength true l ≡ 0
+pub rest-begun : (l : List ℕ) → beginsEvent l ≡ true → restLength true l ≡ 0
 unfolding restLength beginsEvent after str
 rest-begun [] e = refl
 rest-begun (b ∷ bs) e = rw (e, restLength)
 
-rest-on : (l : List ℕ) → beginsEvent l ≡ false → restLength true l ≡ eventLength l
+pub rest-on : (l : List ℕ) → beginsEvent l ≡ false → restLength true l ≡ eventLength l
 unfolding restLength eventLength
 rest-on [] e = refl
 rest-on (b ∷ bs) e = rw (e, restLength)
@@ -103,21 +130,20 @@ module _ (s : List ℕ) (i : ℕ) where
   pub event-line : {r : ℕ} → r ≡ i + lineLength (drop i s) → r + eventLength (drop r s) ≡ i + eventLength (drop i s)
   event-line e = rw (e, ← drop-drop (lineLength (drop i s)) i s) (omega (arith, line-event (drop i s)))
 
-  module _ (h : i < length s) (e : lineLength (drop i s) ≡ 0) {r : Bool} (f : r ≡ hasHead (str "event=") (take (length s - (i + 1)) (drop (i + 1) s))) where
-    begins : beginsEvent (drop (suc i) s) ≡ r
-    unfolding hasHead beginsEvent
-    begins =
-        let z : length (drop (i + 1) s) ≤ length s - (i + 1) = omega (arith, length-drop (i + 1) s) in
-        sym (rw (take-all (length s - (i + 1)) (drop (i + 1) s) z, add-one) at f)
+  module _ (h : i < length s) (e : lineLength (drop i s) ≡ 0) where
+    pub rest-after : eventLength (drop i s) ≡ suc (restLength true (drop (suc i) s))
+    rest-after = rw (drop-cons s i 0 h) (line-next (getD s i 0) (drop (suc i) s) (rw (drop-cons s i 0 h) at e))
 
-    ended : eventLength (drop i s) ≡ suc (restLength true (drop (suc i) s))
-    ended = rw (drop-cons s i 0 h) (line-next (getD s i 0) (drop (suc i) s) (rw (drop-cons s i 0 h) at e))
+    module _ {r : Bool} (f : r ≡ hasHead (str "event=") (drop (i + 1) s)) where
+      begins : beginsEvent (drop (suc i) s) ≡ r
+      unfolding hasHead beginsEvent
+      begins = sym (rw add-one at f)
 
-    pub event-stop : r ≡ true → i + 1 ≡ i + eventLength (drop i s)
-    event-stop g = omega (arith, ended, rest-begun (drop (suc i) s) (begins ∙ g))
+      pub event-stop : r ≡ true → i + 1 ≡ i + eventLength (drop i s)
+      event-stop g = omega (arith, rest-after, rest-begun (drop (suc i) s) (begins ∙ g))
 
-    pub event-more : r ≡ false → i + 1 + eventLength (drop (i + 1) s) ≡ i + eventLength (drop i s)
-    event-more g = rw add-one (omega (arith, ended, rest-on (drop (suc i) s) (begins ∙ g)))
+      pub event-more : r ≡ false → i + 1 + eventLength (drop (i + 1) s) ≡ i + eventLength (drop i s)
+      event-more g = rw add-one (omega (arith, rest-after, rest-on (drop (suc i) s) (begins ∙ g)))
 
   pub event-none : length s ≤ i → i ≡ i + eventLength (drop i s)
   unfolding eventLength

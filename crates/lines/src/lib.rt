@@ -1,8 +1,9 @@
 // Event lines: lines, heads, escapes, the bounds of a stream's events, and parts of an event compared as they are read.
 ghost use mathlib.Core.Path.{_≡_};
-ghost use Prim.Native.Nat.{_+_, _≤_, _<_};
+ghost use mathlib.Core.Bool.{true};
+ghost use Prim.Native.Nat.{_+_, _-_, _≤_, _<_};
 ghost use lib.ListN.{length, drop};
-ghost use Rattle.definition.specs.Text.{same};
+ghost use Rattle.definition.specs.Text.{str, same};
 ghost use Rattle.definition.specs.Event.{legible};
 ghost use Rattle.lines.specs.Lines.{lineLength, hasHead, eventLength};
 ghost use Rattle.lines.specs.Escapes.{counted, scanned, firstWidth, firstByte, placed, fitting, lengthOf};
@@ -13,6 +14,12 @@ ghost use Rattle.lines.specs.Parts.{part, orNothing};
 pub struct Scan {
     pub ok: bool,
     pub len: usize,
+}
+
+// What follows a line's head: where it ends, and whether each of its bytes is known to be the text's.
+pub struct Tail {
+    pub end: usize,
+    pub plain: bool,
 }
 
 // How many bytes are looked at together: the compiler compares them at once.
@@ -33,28 +40,54 @@ fn is_block_within_line(raw: &[u8], i: usize) -> bool
         & (raw[i + 7] != 10)
 }
 
-// Skips blocks without a byte 10 from `from` on: the line still ends at the same place.
-fn skip_within_line(raw: &[u8], from: usize) -> usize
-    ensures { λ r. ⌜ r + lineLength (drop r (now (raw .entry))) ≡ from + lineLength (drop from (now (raw .entry))) ⌝ }
+// Whether a byte on a line is the text's byte: it is no backslash and below 128.
+fn is_plain(b: u8) -> bool
+    ensures { λ r. ⌜ r ≡ isPlain b ⌝ }
 {
-    if raw.len() <= from {
-        return from;
+    (b != 92) & (b < 128)
+}
+
+// Whether each byte of the block at `i` is the text's byte.
+fn is_block_plain(raw: &[u8], i: usize) -> bool
+    requires { do ⌜ i + (← ⟦BLOCK⟧) ≤ length (now raw) ⌝ }
+    ensures { λ r. do ⌜ r ≡ all isPlain (part (now (raw .entry)) i (← ⟦BLOCK⟧ .entry)) ⌝ }
+{
+    is_plain(raw[i])
+        & is_plain(raw[i + 1])
+        & is_plain(raw[i + 2])
+        & is_plain(raw[i + 3])
+        & is_plain(raw[i + 4])
+        & is_plain(raw[i + 5])
+        & is_plain(raw[i + 6])
+        & is_plain(raw[i + 7])
+}
+
+fn tail_to(end: usize, plain: bool) -> Tail
+    ensures { λ r. ⌜ r ≡ record { end = end; plain = plain } ⌝ }
+{
+    Tail {
+        end: end,
+        plain: plain,
     }
+}
+
+// Where the first line from `from` on ends, whose byte 10 is there.
+fn end_in(raw: &[u8], from: usize) -> usize
+    requires { ⌜ from + lineLength (drop from (now raw)) < length (now raw) ⌝ }
+    ensures { λ r. ⌜ r ≡ from + lineLength (drop from (now (raw .entry))) ⌝ }
+{
     let mut i = from;
-    while BLOCK <= raw.len() - i {
-        if !is_block_within_line(raw, i) {
-            return i;
-        }
-        i += BLOCK;
+    while raw[i] != 10 {
+        i += 1;
     }
     i
 }
 
-// Where the line that holds `from` ends: its byte 10, or the end.
-pub fn line_end(raw: &[u8], from: usize) -> usize
+// The same, byte by byte up to the end.
+fn end_near(raw: &[u8], from: usize) -> usize
     ensures { λ r. ⌜ r ≡ from + lineLength (drop from (now (raw .entry))) ⌝ }
 {
-    let mut i = skip_within_line(raw, from);
+    let mut i = from;
     while i < raw.len() {
         if raw[i] == 10 {
             return i;
@@ -64,21 +97,142 @@ pub fn line_end(raw: &[u8], from: usize) -> usize
     i
 }
 
-// Whether a line begins with a head.
-pub fn has_head(line: &[u8], head: &[u8]) -> bool
-    ensures { λ r. ⌜ r ≡ hasHead (now (head .entry)) (now (line .entry)) ⌝ }
+// Where the line that holds `from` ends: its byte 10, or the end.
+pub fn line_end(raw: &[u8], from: usize) -> usize
+    ensures { λ r. ⌜ r ≡ from + lineLength (drop from (now (raw .entry))) ⌝ }
 {
-    let mut i = 0;
-    while i < head.len() {
-        if line.len() <= i {
-            return false;
-        }
-        if head[i] != line[i] {
-            return false;
-        }
-        i += 1;
+    if raw.len() <= from {
+        return from;
     }
-    true
+    let mut i = from;
+    while BLOCK <= raw.len() - i {
+        if !is_block_within_line(raw, i) {
+            return end_in(raw, i);
+        }
+        i += BLOCK;
+    }
+    end_near(raw, i)
+}
+
+// The same, and whether every byte up to there is the text's. Where that is false it is not known: the last block is looked at as a whole.
+pub fn tail_of(raw: &[u8], from: usize) -> Tail
+    ensures at { λ r. ⌜ r .end ≡ from + lineLength (drop from (now (raw .entry))) ⌝ }
+    ensures plain { λ r. ⌜ (r .plain ≡ true → all isPlain (part (now (raw .entry)) from (lineLength (drop from (now (raw .entry))))) ≡ true) ⌝ }
+{
+    if raw.len() <= from {
+        return tail_to(from, false);
+    }
+    let mut i = from;
+    while BLOCK <= raw.len() - i {
+        if !is_block_plain(raw, i) {
+            return tail_to(line_end(raw, i), false);
+        }
+        if !is_block_within_line(raw, i) {
+            return tail_to(end_in(raw, i), true);
+        }
+        i += BLOCK;
+    }
+    tail_to(end_near(raw, i), false)
+}
+
+// Passes blocks by two, which the compiler looks at together, up to one that has a byte 10 or a byte that is not the text's.
+fn skip_long(raw: &[u8], from: usize) -> usize
+    ensures behind { λ r. ⌜ from ≤ r ⌝ }
+    ensures line { λ r. ⌜ r + lineLength (drop r (now (raw .entry))) ≡ from + lineLength (drop from (now (raw .entry))) ⌝ }
+    ensures plain { λ r. ⌜ all isPlain (part (now (raw .entry)) from (r - from)) ≡ true ⌝ }
+{
+    if raw.len() <= from {
+        return from;
+    }
+    let mut i = from;
+    while BLOCK + BLOCK <= raw.len() - i {
+        if !(is_block_plain(raw, i) & is_block_plain(raw, i + BLOCK)) {
+            return i;
+        }
+        if !(is_block_within_line(raw, i) & is_block_within_line(raw, i + BLOCK)) {
+            return i;
+        }
+        i += BLOCK + BLOCK;
+    }
+    i
+}
+
+// Likewise, for a text, which may be long.
+pub fn tail_of_text(raw: &[u8], from: usize) -> Tail
+    ensures at { λ r. ⌜ r .end ≡ from + lineLength (drop from (now (raw .entry))) ⌝ }
+    ensures plain { λ r. ⌜ (r .plain ≡ true → all isPlain (part (now (raw .entry)) from (lineLength (drop from (now (raw .entry))))) ≡ true) ⌝ }
+{
+    let i = skip_long(raw, from);
+    tail_of(raw, i)
+}
+
+// Whether a line that begins with a head begins at `i`. Its bytes are compared at once.
+pub fn begins_event(raw: &[u8], i: usize) -> bool
+    requires { ⌜ i ≤ length (now raw) ⌝ }
+    ensures { λ r. ⌜ r ≡ hasHead (str "event=") (drop i (now (raw .entry))) ⌝ }
+{
+    if raw.len() - i < 6 {
+        return false;
+    }
+    (raw[i] == 101)
+        & (raw[i + 1] == 118)
+        & (raw[i + 2] == 101)
+        & (raw[i + 3] == 110)
+        & (raw[i + 4] == 116)
+        & (raw[i + 5] == 61)
+}
+
+pub fn begins_name(raw: &[u8], i: usize) -> bool
+    requires { ⌜ i ≤ length (now raw) ⌝ }
+    ensures { λ r. ⌜ r ≡ hasHead (str "name=") (drop i (now (raw .entry))) ⌝ }
+{
+    if raw.len() - i < 5 {
+        return false;
+    }
+    (raw[i] == 110)
+        & (raw[i + 1] == 97)
+        & (raw[i + 2] == 109)
+        & (raw[i + 3] == 101)
+        & (raw[i + 4] == 61)
+}
+
+pub fn begins_key(raw: &[u8], i: usize) -> bool
+    requires { ⌜ i ≤ length (now raw) ⌝ }
+    ensures { λ r. ⌜ r ≡ hasHead (str "key=") (drop i (now (raw .entry))) ⌝ }
+{
+    if raw.len() - i < 4 {
+        return false;
+    }
+    (raw[i] == 107) & (raw[i + 1] == 101) & (raw[i + 2] == 121) & (raw[i + 3] == 61)
+}
+
+pub fn begins_value(raw: &[u8], i: usize) -> bool
+    requires { ⌜ i ≤ length (now raw) ⌝ }
+    ensures { λ r. ⌜ r ≡ hasHead (str "value=") (drop i (now (raw .entry))) ⌝ }
+{
+    if raw.len() - i < 6 {
+        return false;
+    }
+    (raw[i] == 118)
+        & (raw[i + 1] == 97)
+        & (raw[i + 2] == 108)
+        & (raw[i + 3] == 117)
+        & (raw[i + 4] == 101)
+        & (raw[i + 5] == 61)
+}
+
+pub fn begins_text(raw: &[u8], i: usize) -> bool
+    requires { ⌜ i ≤ length (now raw) ⌝ }
+    ensures { λ r. ⌜ r ≡ hasHead (str "text=") (drop i (now (raw .entry))) ⌝ }
+{
+    if raw.len() - i < 5 {
+        return false;
+    }
+    (raw[i] == 116)
+        & (raw[i + 1] == 101)
+        & (raw[i + 2] == 120)
+        & (raw[i + 3] == 116)
+        & (raw[i + 4] == 61)
 }
 
 // How many bytes of the line write the text's byte at `i`: 1, or 2 with a backslash; 0 where that is out of form.
@@ -123,28 +277,6 @@ fn byte_at(raw: &[u8], i: usize) -> u8
         return 10;
     }
     c
-}
-
-// Whether a byte on a line is the text's byte: it is no backslash and below 128.
-fn is_plain(b: u8) -> bool
-    ensures { λ r. ⌜ r ≡ isPlain b ⌝ }
-{
-    (b != 92) & (b < 128)
-}
-
-// Whether each byte of the block at `i` is the text's byte.
-fn is_block_plain(raw: &[u8], i: usize) -> bool
-    requires { do ⌜ i + (← ⟦BLOCK⟧) ≤ length (now raw) ⌝ }
-    ensures { λ r. do ⌜ r ≡ all isPlain (part (now (raw .entry)) i (← ⟦BLOCK⟧ .entry)) ⌝ }
-{
-    is_plain(raw[i])
-        & is_plain(raw[i + 1])
-        & is_plain(raw[i + 2])
-        & is_plain(raw[i + 3])
-        & is_plain(raw[i + 4])
-        & is_plain(raw[i + 5])
-        & is_plain(raw[i + 6])
-        & is_plain(raw[i + 7])
 }
 
 // Skips the first blocks whose bytes are the text's, and returns how many bytes that are.
@@ -211,7 +343,7 @@ pub fn next_event(stream: &[u8], from: usize) -> usize
 {
     let mut i = line_end(stream, from);
     while i < stream.len() {
-        if has_head(&stream[i + 1..], b"event=") {
+        if begins_event(stream, i + 1) {
             return i + 1;
         }
         i = line_end(stream, i + 1);
@@ -231,16 +363,6 @@ pub fn part_of(raw: &[u8], at: usize, len: usize) -> &[u8]
     }
     let end = at + len;
     &raw[at..end]
-}
-
-// What follows a line's head of n bytes.
-pub fn after_head(line: &[u8], n: usize) -> &[u8]
-    ensures { λ r. ⌜ now r ≡ drop n (now (line .entry)) ⌝ }
-{
-    if line.len() <= n {
-        return &line[0..0];
-    }
-    &line[n..]
 }
 
 // Whether two texts are the same as they are read, unescaped; what is illegible reads as nothing.

@@ -8,11 +8,9 @@ use borrow.Author.Tests.{lt-ltb, le-ltb}
 use Rattle.definition.specs.Text.{str, same, placeIn}
 use Rattle.definition.specs.Event.{kindNames}
 use Rattle.parts.specs.declared.Part.{Part}
-use Rattle.parts.specs.declared.Pair.{Pair}
 use Rattle.parts.specs.declared.Walked.{Walked}
-use Rattle.parts.specs.declared.Cursor.{Cursor}
 use Rattle.parts.specs.Parts as P
-use Rattle.parts.specs.Parts.{roomLeft, withValue, addedValue, whole, Steps}
+use Rattle.parts.specs.Parts.{roomLeft, withValue, addedValue}
 
 -- ---- kinds
 
@@ -46,13 +44,3 @@ value-full p d h = let z : roomLeft (d .count) ≡ false = le-ltb (d .count) 16 
 pub value-added : (p : Part) (d : Walked) → d .count < 16 → withValue p d ≡ addedValue p d
 unfolding addedValue roomLeft
 value-added p d h = let z : roomLeft (d .count) ≡ true = lt-ltb (d .count) 16 h in rw (z, addedValue)
-
--- ---- a step of the cursor
-
--- What is the same function on what was there before is the same step.
-pub steps-as : (d r : Cursor) (f g : Walked → Walked) → Steps d r f → ((ps : List Pair) → f (whole d ps) ≡ g (whole d ps)) → Steps d r g
-steps-as d r f g s e = record { is = λ ps. s .is ps ∙ e ps; room = s .room }
-
--- A line that brings no value.
-pub no-value : {X : Type 0} → false ≡ true → X
-no-value e = true-is-false (sym e)

@@ -9,7 +9,6 @@ use Rattle.definition.specs.Limits.{limits01}
 use Rattle.parts.specs.declared.Part.{Part}
 use Rattle.parts.specs.declared.Pair.{Pair}
 use Rattle.parts.specs.declared.Walked.{Walked}
-use Rattle.parts.specs.declared.Cursor.{Cursor}
 
 abbrev pub partAt : ℕ → ℕ → ℕ → Part
 partAt at len size = record { at = at; len = len; size = size }
@@ -92,6 +91,7 @@ withKey c p d =
       text = d .text;
     }
 
+-- The key has its value.
 unfoldable pub withValue : Part → Walked → Walked
 withValue p d =
     record {
@@ -99,8 +99,8 @@ withValue p d =
       kind = d .kind;
       tag = d .tag;
       name = d .name;
-      code = d .code;
-      key = d .key;
+      code = 0;
+      key = partAt 0 0 0;
       count = d .count + 1;
       pairs = set (d .pairs) (d .count) (record { code = d .code; key = d .key; value = p });
       text = d .text;
@@ -131,28 +131,3 @@ atMost16 c = min c 16
 unfoldable pub addedValue : Part → Walked → Walked
 unfolding roomLeft withValue broken
 addedValue p d = elim (roomLeft (d .count)) [ true ↦ withValue p d | false ↦ broken d ]
-
--- ---- as the code has it: a cursor, and the attributes beside it
-
-abbrev pub whole : Cursor → List Pair → Walked
-whole c ps =
-    record {
-      next = c .next;
-      kind = c .kind;
-      tag = c .tag;
-      name = c .name;
-      code = c .code;
-      key = c .key;
-      count = c .count;
-      pairs = ps;
-      text = c .text;
-    }
-
--- The attributes after a line: n were there before.
-abbrev pub grown : ℕ → Cursor → List Pair → List Pair
-grown n r ps = elim (r .added) [ true ↦ set ps n (record { code = r .code; key = r .key; value = r .value }) | false ↦ ps ]
-
--- A line takes the cursor d to r: together with the attributes that is f.
-pub record Steps (d r : Cursor) (f : Walked → Walked) : Type 0 where
-  pub is : (ps : List Pair) → whole r (grown (d .count) r ps) ≡ f (whole d ps)
-  pub room : r .added ≡ true → d .count < 16

@@ -22,7 +22,7 @@ use Rattle.parts.specs.declared.Walked.{Walked}
 use Rattle.walk.specs.declared.Found.{Found}
 use Rattle.parts.specs.Parts as P
 use Rattle.parts.specs.Parts.{partAt, withKind, withName, withKey, withText, addedValue}
-use Rattle.walk.specs.Walk.{AsWritten, fits, written, found, nameFits, keyFits, valueFits, textFits, onEvent, onName, onKey, onValue, step}
+use Rattle.walk.specs.Walk.{AsWritten, fits, written, found, nameFits, keyFits, valueFits, textFits, onEvent, onName, onKey, onValue}
 use Rattle.walk.proofs.Standing.{after-split}
 
 -- ---- a line by its head
@@ -40,10 +40,6 @@ head-split h l e = go (after h l) refl
 
 pub head-length : (h l : List ℕ) → hasHead h l ≡ true → length h ≤ length l
 head-length h l e = omega (arith, ap length (head-split h l e), length-append h (drop (length h) l))
-
--- What follows a head ends where the line ends.
-pub rest-fits : (h l x : List ℕ) (at top : ℕ) → hasHead h l ≡ true → x ≡ drop (length h) l → at + length l < top → at + length h + length x < top
-rest-fits h l x at top e ex k = omega (arith, k, head-length h l e, ap length ex ∙ length-drop (length h) l)
 
 module _ (l : List ℕ) where
   pub as-event : hasHead (str "event=") l ≡ true → lineOf l ≡ E.event (drop 6 l)
@@ -216,20 +212,3 @@ module _ (l : List ℕ) (at : ℕ) (d : Walked) (x : List ℕ) (m : Found) where
 pub event-good : (l : List ℕ) (d : Walked) (x : List ℕ) (k : ℕ) → hasHead (str "event=") l ≡ true → x ≡ drop 6 l → k ≡ placeIn kindNames x → withKind k d ≡ onEvent (lineOf l) d
 unfolding onEvent
 event-good l d x k e ex ek = ap (λ (n : ℕ). withKind n d) ek ∙ sym (ap (λ (q : Line). onEvent q d) (as-event l e ∙ ap E.event (sym ex)))
-
--- ---- a step
-
-module _ (at : ℕ) (l : Line) (d : Walked) where
-  pub step-is : {r : Walked} (m : ℕ) → d .next ≡ m → r ≡ step m at l d → r ≡ step (d .next) at l d
-  step-is m e f = f ∙ ap (λ (k : ℕ). step k at l d) (sym e)
-
-  pub step-other : (d .next ≡ 0 → ⊥) → (d .next ≡ 1 → ⊥) → (d .next ≡ 2 → ⊥) → (d .next ≡ 3 → ⊥) → P.broken d ≡ step (d .next) at l d
-  unfolding step
-  step-other a b c e = go (d .next) a b c e
-    where
-      go : (m : ℕ) → (m ≡ 0 → ⊥) → (m ≡ 1 → ⊥) → (m ≡ 2 → ⊥) → (m ≡ 3 → ⊥) → P.broken d ≡ step m at l d
-      go zero a b c e = absurd (a refl)
-      go (suc zero) a b c e = absurd (b refl)
-      go (suc (suc zero)) a b c e = absurd (c refl)
-      go (suc (suc (suc zero))) a b c e = absurd (e refl)
-      go (suc (suc (suc (suc m)))) a b c e = refl

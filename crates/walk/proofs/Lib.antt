@@ -3,4 +3,9 @@ pub mod Plain
 pub mod WalkLaw
 pub mod TakenLaw
 pub mod CodeLaws
+pub mod LineIn
+pub mod TakesLaws
 pub mod LoopLaws
+pub mod StreamLaws
+pub mod StepLaws
+pub mod SecondEvent

@@ -6,16 +6,15 @@ use mathlib.Core.List.{List, [], _∷_, _++_, append-nil, append-assoc}
 use native.Mathlib.Omega.{arith}
 use lib.Dec.{eqb, leb}
 use lib.ListN.{length, take, drop, set, length-drop, drop-of-length-le}
-use borrow.Author.Tests.{le-leb, lt-leb}
+use borrow.Author.Tests.{le-leb}
 use lib.Seq.{drop-drop, length-take-le}
 use Rattle.definition.proofs.Base.{true-is-false}
 use Rattle.definition.specs.Event.{lineOf, linesFrom, tailFrom, isNil}
 use Rattle.lines.specs.Lines.{lineLength}
-use Rattle.parts.specs.declared.Pair.{Pair}
 use Rattle.parts.specs.declared.Walked.{Walked}
-use Rattle.parts.specs.declared.Cursor.{Cursor}
-use Rattle.parts.specs.Parts.{begun, broken, whole, grown, Steps}
+use Rattle.parts.specs.Parts.{begun, broken}
 use Rattle.walk.specs.Walk.{placedLines, step, walk, walkedLines, walked}
+use Rattle.walk.specs.Stream.{Left}
 
 -- ---- the first line of what is left
 
@@ -89,12 +88,6 @@ not-nil (b ∷ bs) h = refl
 
 -- ---- the loop over lines
 
--- What is left from `at` on, walked from d, is the whole, walked from the start.
-pub record Left (raw : List ℕ) (at : ℕ) (d : Walked) : Type 0 where
-  pub within : at ≤ length raw
-  pub rest : walk (placedLines at (linesFrom [] (drop at raw))) d ≡ walk (placedLines 0 (linesFrom [] raw)) begun
-  pub tail : tailFrom [] (drop at raw) ≡ tailFrom [] raw
-
 pub left-start : (raw : List ℕ) (d : Walked) → d ≡ begun → Left raw 0 d
 left-start raw d e = record { within = omega arith; rest = ap (λ (x : Walked). walk (placedLines 0 (linesFrom [] raw)) x) e; tail = refl }
 
@@ -152,40 +145,3 @@ module _ (raw : List ℕ) (d : Walked) where
   pub short-enough : length raw ≤ 49152 → d ≡ walkedLines raw → d ≡ walked raw
   unfolding walked
   short-enough h e = let z : leb (length raw) 49152 ≡ true = le-leb (length raw) 49152 h in rw (z, walked) e
-
-  pub too-long : 49152 < length raw → d ≡ begun → broken d ≡ walked raw
-  unfolding walked
-  too-long h e = let z : leb (length raw) 49152 ≡ false = lt-leb (length raw) 49152 h in rw (z, walked) (ap broken e)
-
--- ---- a cursor, and the attributes beside it
-
-pub cursor-start : (raw : List ℕ) (d : Cursor) (ps ns : List Pair) → ps ≡ ns → whole d ns ≡ begun → Left raw 0 (whole d ps)
-cursor-start raw d ps ns e b = left-start raw (whole d ps) (ap (whole d) e ∙ b)
-
-module _ (d r : Cursor) (f : Walked → Walked) (s : Steps d r f) (ps qs : List Pair) where
-  value-there : (x : Pair) → x ≡ record { code = r .code; key = r .key; value = r .value } → r .added ≡ true → qs ≡ set ps (d .count) x → qs ≡ grown (d .count) r ps
-  value-there x ex t e = e ∙ ap (set ps (d .count)) ex ∙ go (r .added) t
-    where
-      go : (b : Bool) → b ≡ true → _≡_ {A = List Pair} (set ps (d .count) (record { code = r .code; key = r .key; value = r .value })) (elim b [ true ↦ set ps (d .count) (record { code = r .code; key = r .key; value = r .value }) | false ↦ ps ])
-      go true t = refl
-      go false t = true-is-false (sym t)
-
-  value-none : r .added ≡ false → qs ≡ ps → qs ≡ grown (d .count) r ps
-  value-none t e = e ∙ go (r .added) t
-    where
-      go : (b : Bool) → b ≡ false → _≡_ {A = List Pair} ps (elim b [ true ↦ set ps (d .count) (record { code = r .code; key = r .key; value = r .value }) | false ↦ ps ])
-      go true t = true-is-false t
-      go false t = refl
-
-  grown-is : qs ≡ grown (d .count) r ps → whole r qs ≡ f (whole d ps)
-  grown-is e = ap (whole r) e ∙ s .is ps
-
-  pub with-value : (x : Pair) → x ≡ record { code = r .code; key = r .key; value = r .value } → r .added ≡ true → qs ≡ set ps (d .count) x → whole r qs ≡ f (whole d ps)
-  with-value x ex t e = grown-is (value-there x ex t e)
-
-  pub without-value : r .added ≡ false → qs ≡ ps → whole r qs ≡ f (whole d ps)
-  without-value t e = grown-is (value-none t e)
-
--- An event that breaks off.
-pub broken-off : (d r : Cursor) (ps : List Pair) (w : Walked) → Steps d r broken → r .added ≡ false → w ≡ whole r ps → w ≡ broken (whole d ps)
-broken-off d r ps w s t e = e ∙ without-value d r broken s ps ps t refl

@@ -2,30 +2,36 @@
 use definition::Chart;
 use elements::tag_of;
 use keys::key_of;
-use lines::after_head;
-use lines::has_head;
+use lines::Scan;
+use lines::begins_event;
+use lines::begins_key;
+use lines::begins_name;
+use lines::begins_text;
+use lines::begins_value;
 use lines::line_end;
+use lines::next_event;
 use lines::scan_line;
-use parts::Cursor;
+use lines::tail_of;
+use lines::tail_of_text;
 use parts::Pair;
 use parts::Part;
 use parts::Walked;
-use parts::add_value;
-use parts::break_off;
 use parts::kind_of;
 use parts::no_pairs;
-use parts::start;
-use parts::together;
+use parts::no_part;
 use parts::wide;
 ghost use mathlib.Core.Path.{_≡_};
-ghost use mathlib.Core.Bool.{true};
-ghost use Prim.Native.Nat.{_+_, _^_, _<_};
-ghost use lib.ListN.{length};
+ghost use mathlib.Core.Bool.{true, false, _&&_, _||_};
+ghost use Prim.Native.Nat.{_+_, _^_, _≤_, _<_};
+ghost use lib.Dec.{ltb, leb};
+ghost use lib.ListN.{length, drop};
 ghost use Rattle.definition.specs.Text.{str};
-ghost use Rattle.definition.specs.Event.{lineOf};
-ghost use Rattle.lines.specs.Lines.{hasHead};
-ghost use Rattle.parts.specs.Parts.{Steps, partAt};
-ghost use Rattle.walk.specs.Walk.{AsWritten, found, onEvent, onName, onKey, onValue, step, walked};
+ghost use Rattle.lines.specs.Lines.{hasHead, eventLength};
+ghost use Rattle.lines.specs.Escapes.{scanned};
+ghost use Rattle.lines.specs.Blocks.{all, isPlain};
+ghost use Rattle.parts.specs.Parts.{partAt, noPairs, broken, begun, withKind, withName, withKey, withText, addedValue};
+ghost use Rattle.walk.specs.Walk.{AsWritten, found, onEvent, onName, onKey, onValue};
+ghost use Rattle.walk.specs.Stream.{Takes, Reached, made, outcome};
 
 // A part, and whether it is legible and within its limits.
 pub struct Found {
@@ -49,24 +55,34 @@ fn found_at(at: usize, len: usize, size: usize) -> Found
     }
 }
 
+// Whether what is written is legible, and its unescaped length; what is known to be plain is not scanned.
+fn measure(written: &[u8], plain: bool) -> Scan
+    requires { ⌜ (plain ≡ true → all isPlain (now written) ≡ true) ⌝ }
+    ensures { λ r. ⌜ r ≡ scanned (now (written .entry)) ⌝ }
+{
+    if plain {
+        return Scan {
+            ok: true,
+            len: written.len(),
+        };
+    }
+    scan_line(written)
+}
+
 // What is written at `at`, if it is legible and of `low` to `high` bytes unescaped.
-fn find_part(written: &[u8], at: usize, low: usize, high: u32) -> Found
+fn find_part(written: &[u8], plain: bool, at: usize, low: usize, high: u32) -> Found
+    requires { ⌜ (plain ≡ true → all isPlain (now written) ≡ true) ⌝ }
     requires { ⌜ at + length (now written) < 2 ^ 16 ⌝ }
     requires { ⌜ high < 2 ^ 16 ⌝ }
     ensures { λ r. ⌜ r ≡ found low high at (now (written .entry)) ⌝ }
 {
-    let s = scan_line(written);
+    let s = measure(written, plain);
     let size = s.len;
     let top = wide(high);
     if !(s.ok & (low <= size) & (size <= top)) {
-        let none = Part {
-            at: 0,
-            len: 0,
-            size: 0,
-        };
         return Found {
             ok: false,
-            part: none,
+            part: no_part(),
         };
     }
     found_at(at, written.len(), size)
@@ -80,161 +96,293 @@ fn part_by_code(code: u32, written: &[u8], at: usize, high: u32) -> Found
     ensures { λ r. ⌜ r ≡ found 1 high at (now (written .entry)) ⌝ }
 {
     if code == 0 {
-        return find_part(written, at, 1, high);
+        return find_part(written, false, at, 1, high);
     }
     let len = written.len();
     found_at(at, len, len)
 }
 
-// One line more, by what may come.
-fn on_event(line: &[u8], d: Cursor) -> Cursor
-    ensures { λ r. ⌜ Steps d r (onEvent (lineOf (now (line .entry)))) ⌝ }
-{
-    if !has_head(line, b"event=") {
-        return break_off(d);
-    }
-    let kind = kind_of(after_head(line, 6));
-    let mut e = d;
-    e.added = false;
-    e.next = 1;
-    e.kind = kind;
-    e
+// A line: whether it is in form, the number of its kind, element or key, its part, and where the next line begins.
+pub struct Lined {
+    pub ok: bool,
+    pub code: u32,
+    pub part: Part,
+    pub next: usize,
 }
 
-fn on_name(line: &[u8], at: usize, d: Cursor) -> Cursor
-    requires { ⌜ at + length (now line) < 2 ^ 16 ⌝ }
-    ensures { λ r. ⌜ Steps d r (onName at (lineOf (now (line .entry)))) ⌝ }
+fn line_with(f: Found, code: u32, next: usize) -> Lined
+    ensures { λ r. ⌜ r ≡ record { ok = f .ok; code = code; part = f .part; next = next } ⌝ }
 {
-    if !has_head(line, b"name=") {
-        return break_off(d);
+    let part = f.part;
+    Lined {
+        ok: f.ok,
+        code: code,
+        part: part,
+        next: next,
     }
-    let name = after_head(line, 5);
+}
+
+// A line out of form.
+fn no_line() -> Lined
+    ensures { λ r. ⌜ r .ok ≡ false ⌝ }
+{
+    let part = no_part();
+    Lined {
+        ok: false,
+        code: 0,
+        part: part,
+        next: 0,
+    }
+}
+
+// Whether a line is ended, in an event that is not too long.
+fn is_ended(stream: &[u8], end: usize) -> bool
+    ensures { λ r. ⌜ r ≡ (ltb end (length (now (stream .entry))) && ltb end 49152) ⌝ }
+{
+    (end < stream.len()) & (end < wide(Chart::EVENT))
+}
+
+// The line that begins at `at`, by what may come.
+fn event_line(stream: &[u8]) -> Lined
+    ensures { λ r. ⌜ Takes (now (stream .entry)) 0 onEvent (withKind (r .code)) r ⌝ }
+{
+    if !begins_event(stream, 0) {
+        return no_line();
+    }
+    let end = line_end(stream, 6);
+    if !is_ended(stream, end) {
+        return no_line();
+    }
+    let kind = kind_of(&stream[6..end]);
+    line_with(found_at(0, 0, 0), kind, end + 1)
+}
+
+fn name_line(stream: &[u8], at: usize) -> Lined
+    requires { ⌜ at ≤ length (now stream) ⌝ }
+    ensures { λ r. ⌜ Takes (now (stream .entry)) at (onName at) (withName (r .code) (r .part)) r ⌝ }
+{
+    if !begins_name(stream, at) {
+        return no_line();
+    }
+    let from = at + 5;
+    let end = line_end(stream, from);
+    if !is_ended(stream, end) {
+        return no_line();
+    }
+    let name = &stream[from..end];
     let tag = tag_of(name);
-    let f = part_by_code(tag, name, at + 5, Chart::NAME);
-    if !f.ok {
-        return break_off(d);
-    }
-    let part = f.part;
-    let mut e = d;
-    e.added = false;
-    e.next = 2;
-    e.tag = tag;
-    e.name = part;
-    e
+    line_with(part_by_code(tag, name, from, Chart::NAME), tag, end + 1)
 }
 
-fn on_text(line: &[u8], at: usize, d: Cursor) -> Cursor
-    requires { ⌜ at + length (now line) < 2 ^ 16 ⌝ }
-    requires { ⌜ hasHead (str "text=") (now line) ≡ true ⌝ }
-    ensures { λ r. ⌜ Steps d r (onKey at (lineOf (now (line .entry)))) ⌝ }
+fn key_line(stream: &[u8], at: usize) -> Lined
+    requires { ⌜ at ≤ length (now stream) ⌝ }
+    requires { ⌜ hasHead (str "key=") (drop at (now stream)) ≡ true ⌝ }
+    ensures { λ r. ⌜ Takes (now (stream .entry)) at (onKey at) (withKey (r .code) (r .part)) r ⌝ }
 {
-    let f = find_part(after_head(line, 5), at + 5, 0, Chart::TEXT);
-    if !f.ok {
-        return break_off(d);
+    let from = at + 4;
+    let end = line_end(stream, from);
+    if !is_ended(stream, end) {
+        return no_line();
     }
-    let part = f.part;
-    let mut e = d;
-    e.added = false;
+    let key = &stream[from..end];
+    let code = key_of(key);
+    line_with(part_by_code(code, key, from, Chart::KEY), code, end + 1)
+}
+
+fn value_line(stream: &[u8], at: usize) -> Lined
+    requires { ⌜ at ≤ length (now stream) ⌝ }
+    ensures { λ r. ⌜ Takes (now (stream .entry)) at (onValue at) (addedValue (r .part)) r ⌝ }
+{
+    if !begins_value(stream, at) {
+        return no_line();
+    }
+    let from = at + 6;
+    let t = tail_of(stream, from);
+    let end = t.end;
+    if !is_ended(stream, end) {
+        return no_line();
+    }
+    line_with(
+        find_part(&stream[from..end], t.plain, from, 0, Chart::VALUE),
+        0,
+        end + 1,
+    )
+}
+
+fn text_line(stream: &[u8], at: usize) -> Lined
+    requires { ⌜ at ≤ length (now stream) ⌝ }
+    requires { ⌜ hasHead (str "text=") (drop at (now stream)) ≡ true ⌝ }
+    ensures { λ r. ⌜ Takes (now (stream .entry)) at (onKey at) (withText (r .part)) r ⌝ }
+{
+    let from = at + 5;
+    let t = tail_of_text(stream, from);
+    let end = t.end;
+    if !is_ended(stream, end) {
+        return no_line();
+    }
+    line_with(
+        find_part(&stream[from..end], t.plain, from, 0, Chart::TEXT),
+        0,
+        end + 1,
+    )
+}
+
+// The first event of a stream: what its lines have brought, and where it ends.
+pub struct Walk {
+    pub walked: Walked,
+    pub end: usize,
+}
+
+// An event out of form.
+fn refuse(stream: &[u8]) -> Walk
+    ensures { λ r. ⌜ r ≡ record { walked = broken begun; end = eventLength (now (stream .entry)) } ⌝ }
+{
+    let part = no_part();
+    let pairs = no_pairs();
+    let walked = Walked {
+        next: 5,
+        kind: 0,
+        tag: 0,
+        name: part,
+        code: 0,
+        key: part,
+        count: 0,
+        pairs: pairs,
+        text: part,
+    };
+    Walk {
+        walked: walked,
+        end: next_event(stream, 0),
+    }
+}
+
+fn ended(w: Walked, end: usize) -> Walk
+    ensures { λ r. ⌜ r ≡ record { walked = w; end = end } ⌝ }
+{
+    Walk {
+        walked: w,
+        end: end,
+    }
+}
+
+// Whether the next event begins at `at`, or nothing follows.
+fn is_over(stream: &[u8], at: usize) -> bool
+    requires { ⌜ at ≤ length (now stream) ⌝ }
+    ensures { λ r. ⌜ r ≡ (hasHead (str "event=") (drop at (now (stream .entry))) || leb (length (now (stream .entry))) at) ⌝ }
+{
+    begins_event(stream, at) | (stream.len() <= at)
+}
+
+// The text, and no line after it.
+fn walk_text(stream: &[u8], w: Walked, at: usize) -> Walk
+    requires { ⌜ Reached (now stream) at w ⌝ }
+    requires { ⌜ w .next ≡ 2 ⌝ }
+    requires { ⌜ hasHead (str "text=") (drop at (now stream)) ≡ true ⌝ }
+    ensures { λ r. ⌜ r ≡ outcome (now (stream .entry)) ⌝ }
+{
+    let t = text_line(stream, at);
+    if !t.ok {
+        return refuse(stream);
+    }
+    let next = t.next;
+    if !is_over(stream, next) {
+        return refuse(stream);
+    }
+    let part = t.part;
+    let mut e = w;
     e.next = 4;
     e.text = part;
-    e
+    ended(e, next)
 }
 
-fn on_key(line: &[u8], at: usize, d: Cursor) -> Cursor
-    requires { ⌜ at + length (now line) < 2 ^ 16 ⌝ }
-    ensures { λ r. ⌜ Steps d r (onKey at (lineOf (now (line .entry)))) ⌝ }
+// What follows the attributes.
+fn walk_on(stream: &[u8], w: Walked, at: usize) -> Walk
+    requires { ⌜ Reached (now stream) at w ⌝ }
+    requires { ⌜ 0 < at ⌝ }
+    requires { ⌜ w .next ≡ 2 ⌝ }
+    requires { ⌜ hasHead (str "key=") (drop at (now stream)) ≡ false ⌝ }
+    ensures { λ r. ⌜ r ≡ outcome (now (stream .entry)) ⌝ }
 {
-    if has_head(line, b"text=") {
-        return on_text(line, at, d);
+    if begins_text(stream, at) {
+        return walk_text(stream, w, at);
     }
-    if !has_head(line, b"key=") {
-        return break_off(d);
+    if !is_over(stream, at) {
+        return refuse(stream);
     }
-    let key = after_head(line, 4);
-    let code = key_of(key);
-    let f = part_by_code(code, key, at + 4, Chart::KEY);
-    if !f.ok {
-        return break_off(d);
-    }
-    let part = f.part;
-    let mut e = d;
-    e.added = false;
-    e.next = 3;
-    e.code = code;
-    e.key = part;
-    e
+    ended(w, at)
 }
 
-fn on_value(line: &[u8], at: usize, d: Cursor) -> Cursor
-    requires { ⌜ at + length (now line) < 2 ^ 16 ⌝ }
-    ensures { λ r. ⌜ Steps d r (onValue at (lineOf (now (line .entry)))) ⌝ }
+// What the lines have brought up to the last attribute.
+fn with_pairs(kind: u32, tag: u32, name: Part, count: usize, pairs: [Pair; 16]) -> Walked
+    ensures { λ r. ⌜ r ≡ made kind tag name count pairs ⌝ }
 {
-    if !has_head(line, b"value=") {
-        return break_off(d);
+    let part = no_part();
+    Walked {
+        next: 2,
+        kind: kind,
+        tag: tag,
+        name: name,
+        code: 0,
+        key: part,
+        count: count,
+        pairs: pairs,
+        text: part,
     }
-    let f = find_part(after_head(line, 6), at + 6, 0, Chart::VALUE);
-    if !f.ok {
-        return break_off(d);
-    }
-    let part = f.part;
-    add_value(d, part)
 }
 
-// What is known after the line that begins at `at`.
-fn step_on(line: &[u8], at: usize, d: Cursor) -> Cursor
-    requires { ⌜ at + length (now line) < 2 ^ 16 ⌝ }
-    ensures { λ r. ⌜ Steps d r (step (d .next) at (lineOf (now (line .entry)))) ⌝ }
+fn pair_of(k: Lined, v: Lined) -> Pair
+    ensures { λ r. ⌜ r ≡ record { code = k .code; key = k .part; value = v .part } ⌝ }
 {
-    let next = d.next;
-    if next == 0 {
-        return on_event(line, d);
-    }
-    if next == 1 {
-        return on_name(line, at, d);
-    }
-    if next == 2 {
-        return on_key(line, at, d);
-    }
-    if next == 3 {
-        return on_value(line, at, d);
-    }
-    break_off(d)
-}
-
-// The pair whose value came last.
-fn last_pair(d: Cursor) -> Pair
-    ensures { λ r. ⌜ r ≡ record { code = d .code; key = d .key; value = d .value } ⌝ }
-{
-    let key = d.key;
-    let value = d.value;
+    let key = k.part;
+    let value = v.part;
     Pair {
-        code: d.code,
+        code: k.code,
         key: key,
         value: value,
     }
 }
 
-// All lines of an event; it is out of form if it is too long or its last line is not ended.
-pub fn walk_lines(raw: &[u8]) -> Walked
-    ensures { λ r. ⌜ r ≡ walked (now (raw .entry)) ⌝ }
+// The lines after the name `n`.
+fn walk_pairs(stream: &[u8], kind: u32, n: Lined) -> Walk
+    requires { ⌜ 0 < n .next ⌝ }
+    requires { ⌜ Reached (now stream) (n .next) (made kind (n .code) (n .part) 0 noPairs) ⌝ }
+    ensures { λ r. ⌜ r ≡ outcome (now (stream .entry)) ⌝ }
 {
-    let mut d = start();
+    let tag = n.code;
+    let name = n.part;
+    let mut at = n.next;
+    let mut count = 0;
     let mut pairs = no_pairs();
-    if wide(Chart::EVENT) < raw.len() {
-        return together(break_off(d), pairs);
-    }
-    let mut at = 0;
-    while at < raw.len() {
-        let end = line_end(raw, at);
-        if raw.len() <= end {
-            return together(break_off(d), pairs);
+    while begins_key(stream, at) {
+        let k = key_line(stream, at);
+        if !k.ok {
+            return refuse(stream);
         }
-        let n = d.count;
-        d = step_on(&raw[at..end], at, d);
-        if d.added {
-            pairs[n] = last_pair(d);
+        let v = value_line(stream, k.next);
+        if !v.ok {
+            return refuse(stream);
         }
-        at = end + 1;
+        if wide(Chart::ATTRIBUTES) <= count {
+            return refuse(stream);
+        }
+        pairs[count] = pair_of(k, v);
+        count += 1;
+        at = v.next;
     }
-    together(d, pairs)
+    walk_on(stream, with_pairs(kind, tag, name, count, pairs), at)
+}
+
+// The lines of a stream's first event, up to where it ends.
+pub fn walk_lines(stream: &[u8]) -> Walk
+    ensures { λ r. ⌜ r ≡ outcome (now (stream .entry)) ⌝ }
+{
+    let e = event_line(stream);
+    if !e.ok {
+        return refuse(stream);
+    }
+    let n = name_line(stream, e.next);
+    if !n.ok {
+        return refuse(stream);
+    }
+    walk_pairs(stream, e.code, n)
 }

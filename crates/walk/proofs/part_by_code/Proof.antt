@@ -1,11 +1,12 @@
 use Rattle.walk.proofs.CodeLaws.{as-found}
-use mathlib.Core.Path.{_∙_}
+use mathlib.Core.Path.{sym, _∙_}
+use Rattle.definition.proofs.Base.{true-is-false}
 use borrow.Author.Needs.{needs}
 use Rattle.walk.proofs.part_by_code.Statement.{statement}
 use Rattle.walk.proofs.part_by_code.Tie as tie
 
 find-part-requires : tie.Need-find-part-requires
-find-part-requires c κs = search needs
+find-part-requires c κs = ((λ e. true-is-false (sym e)), (c .before .before .pre .0, c .before .before .pre .1 .0))
 
 returns : tie.Need-returns
 returns c = search needs
