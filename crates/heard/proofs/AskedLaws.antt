@@ -3,10 +3,10 @@ use Prim.Native.Nat.{ℕ, _<_}
 use mathlib.Core.Path.{_≡_, refl, sym, ap, ap₂, _∙_}
 use mathlib.Core.Bool.{Bool, true, false, not, _&&_, _||_}
 use mathlib.Core.Option.{Option, none, some}
-use mathlib.Core.List.{List, [], _∷_}
+use mathlib.Core.List.{List, [], _∷_, _++_}
 use native.Mathlib.Omega.{arith}
 use lib.Dec.{eqb, ltb, leb}
-use lib.ListN.{length, take, drop}
+use lib.ListN.{length, take}
 use borrow.Author.Tests.{ltb-true, eq-eqb, ne-eqb}
 use Rattle.definition.specs.Text.{Span, trim}
 use Rattle.definition.specs.Elements.{leftOutKeys, Required, requirements, requiredIn, Apart, exclusions}
@@ -18,15 +18,15 @@ use Rattle.words.specs.declared.Part.{Part}
 use Rattle.words.specs.Next.{asSpan}
 use Rattle.lines.specs.Parts.{part}
 use Rattle.plain.specs.declared.Plain.{Plain}
+use Rattle.plain.specs.declared.Keyed.{Keyed}
 use Rattle.plain.specs.Plain.{slotBytes, parsedIn, loadsIn, textIf}
 use Rattle.plain.specs.Keyed.{valueIn}
-use Rattle.plain.specs.Keyed.{indexOf, isMarked}
-use Rattle.plain.proofs.ValueLaws.{marked-has}
+use Rattle.plain.specs.Keyed.{keyedOf, isMarked, keyedBytes}
+use Rattle.plain.proofs.ValueLaws.{marked-has, keyed-value}
 use Rattle.heard.proofs.CodeLaws.{and-no, flip}
-use Rattle.heard.specs.declared.Asked.{Asked}
 use Rattle.definition.specs.Nesting.{parentAllowed}
 use Rattle.plan.specs.declared.Heard.{Heard}
-use Rattle.heard.specs.Asked.{questionsBy, oneBy, allBy, pairsBy, leftOutBy, completeBy, apartBy, trimmedIn, textApartIn, askedIn, pick}
+use Rattle.heard.specs.Asked.{questionsBy, oneBy, allBy, pairsBy, leftOutBy, completeBy, apartBy, trimmedIn, textApartIn, Asked, askedIn, startBy}
 
 or-no : (b : Bool) → (b || false) ≡ b
 or-no true = refl
@@ -207,14 +207,14 @@ module _ (P f h : ℕ → Bool) (e : (n : ℕ) → P n ≡ true → f n ≡ h n)
 abbrev low : ℕ → Bool
 low n = ltb n 31
 
-module _ (src : List ℕ) (p : Plain) (ix : List ℕ) (e : ix ≡ indexOf (take (p .count) (p .slots))) where
+module _ (src : List ℕ) (p : Plain) (ix : Keyed) (e : ix ≡ keyedOf (take (p .count) (p .slots))) where
   abbrev vs : List Load
   vs = loadsIn src (take (p .count) (p .slots))
 
   there : (k : ℕ) → k < 31 → isMarked ix k ≡ hasLoad k vs
   there k low = marked-has src k low (take (p .count) (p .slots)) ix e (isMarked ix k) refl
 
-  pub text-is : p .kind ≡ 2 → (d₀ x : Bool) (v : List ℕ) → x ≡ isMarked ix 19 → v ≡ valueIn 19 vs → d₀ ≡ not (eqb (p .tag) 9 && x && leb 1 (trimmedIn (parsedIn src p .text)))
+  pub text-is : p .kind ≡ 2 → (d₀ x : Bool) (v : List ℕ) → x ≡ isMarked ix 19 → v ≡ keyedBytes src ix 19 → d₀ ≡ not (eqb (p .tag) 9 && x && leb 1 (trimmedIn (parsedIn src p .text)))
       → (d₀ && not (eqb (p .tag) 15 && x) && not (eqb (p .tag) 23 && leb 1 (length v))) ≡ textApartIn (parsedIn src p)
   unfolding textApartIn parsedIn
   text-is whole d₀ x v ex ev ed =
@@ -223,51 +223,155 @@ module _ (src : List ℕ) (p : Plain) (ix : List ℕ) (e : ix ≡ indexOf (take 
       let y : (b : Bool) → b ≡ (b && eqb (p .kind) 2) = λ b. sym (ap (λ (z : Bool). b && z) (eq-eqb (p .kind) 2 whole) ∙ and-yes b) in
       ap (λ (d : Bool). d && not (eqb (p .tag) 15 && x) && not (eqb (p .tag) 23 && leb 1 (length v))) ed
       ∙ ap₂ (λ (b c : Bool). not (eqb (p .tag) 9 && x && t) && not b && not c) (y (eqb (p .tag) 15 && x)) (y (eqb (p .tag) 23 && leb 1 (length v)))
-      ∙ ap₂ (λ (b : Bool) (w : List ℕ). not (eqb (p .tag) 9 && b && t) && not (eqb (p .tag) 15 && b && eqb (p .kind) 2) && not (eqb (p .tag) 23 && leb 1 (length w) && eqb (p .kind) 2)) q ev
+      ∙ ap₂ (λ (b : Bool) (w : List ℕ). not (eqb (p .tag) 9 && b && t) && not (eqb (p .tag) 15 && b && eqb (p .kind) 2) && not (eqb (p .tag) 23 && leb 1 (length w) && eqb (p .kind) 2)) q (keyed-value src 19 (omega arith) (take (p .count) (p .slots)) ix e v ev)
 
-  pub asked-is : (l c k t : Bool) → l ≡ leftOutBy (isMarked ix) (p .tag) → c ≡ completeBy (isMarked ix) (p .tag) → k ≡ apartBy (isMarked ix) (p .tag) → t ≡ textApartIn (parsedIn src p)
-      → record { omitted = l; complete = c; apart = k && t } ≡ askedIn (parsedIn src p)
+  alike : (n : ℕ) → low n ≡ true → isMarked ix n ≡ hasLoad n vs
+  alike n q = there n (ltb-true n 31 q)
+
+  pub six : leftOutBy (isMarked ix) (p .tag) ≡ askedIn (parsedIn src p) .omitted
   unfolding askedIn parsedIn
-  asked-is l c k t el ec ek et =
-      λ i. record { omitted = (el ∙ six) i; complete = (ec ∙ ten) i; apart = (ek ∙ eleven) i && et i }
-    where
-      alike : (n : ℕ) → low n ≡ true → isMarked ix n ≡ hasLoad n vs
-      alike n q = there n (ltb-true n 31 q)
+  six = left-alike low (isMarked ix) (λ n. hasLoad n vs) alike (p .tag) refl refl
 
-      six : leftOutBy (isMarked ix) (p .tag) ≡ leftOutBy (λ n. hasLoad n vs) (p .tag)
-      six = left-alike low (isMarked ix) (λ n. hasLoad n vs) alike (p .tag) refl refl
+  pub ten : completeBy (isMarked ix) (p .tag) ≡ askedIn (parsedIn src p) .complete
+  unfolding askedIn parsedIn allIn listsIn keysIn requirements
+  ten = complete-alike low (isMarked ix) (λ n. hasLoad n vs) alike (p .tag) refl
 
-      ten : completeBy (isMarked ix) (p .tag) ≡ completeBy (λ n. hasLoad n vs) (p .tag)
-      ten = unfold allIn listsIn keysIn requirements in complete-alike low (isMarked ix) (λ n. hasLoad n vs) alike (p .tag) refl
-
-      eleven : apartBy (isMarked ix) (p .tag) ≡ apartBy (λ n. hasLoad n vs) (p .tag)
-      eleven = unfold pairsIn exclusions in apart-alike low (isMarked ix) (λ n. hasLoad n vs) alike (p .tag) refl
+  pub eleven : (apartBy (isMarked ix) (p .tag) && textApartIn (parsedIn src p)) ≡ askedIn (parsedIn src p) .apart
+  unfolding askedIn parsedIn pairsIn exclusions
+  eleven = ap (λ (b : Bool). b && textApartIn (parsedIn src p)) (apart-alike low (isMarked ix) (λ n. hasLoad n vs) alike (p .tag) refl)
 
 -- ---- the first no
 
-pub pick-yes : (b : Bool) (k r : ℕ) → b ≡ true → r ≡ pick b k r
-pick-yes b k r e = unfold pick in sym (ap (λ (x : Bool). pick x k r) e)
+module _ (b : Bool) (k : ℕ) (qs : List Question) where
+  pub no-here : b ≡ false → k ≡ firstNo (record { yes = b; otherwise = k } ∷ qs)
+  unfolding firstNo
+  no-here e = sym (ap (λ (x : Bool). firstNo (record { yes = x; otherwise = k } ∷ qs)) e)
 
-pub pick-no : (b : Bool) (k r : ℕ) → b ≡ false → k ≡ pick b k r
-pick-no b k r e = unfold pick in sym (ap (λ (x : Bool). pick x k r) e)
+  pub no-later : b ≡ true → (r : ℕ) → r ≡ firstNo qs → r ≡ firstNo (record { yes = b; otherwise = k } ∷ qs)
+  unfolding firstNo
+  no-later e r h = h ∙ sym (ap (λ (x : Bool). firstNo (record { yes = x; otherwise = k } ∷ qs)) e)
 
-pub first-is : (b : Bool) (k r x : ℕ) (qs : List Question) → x ≡ pick b k r → r ≡ firstNo qs → x ≡ firstNo (record { yes = b; otherwise = k } ∷ qs)
-unfolding pick firstNo
-first-is true k r x qs e h = e ∙ h
-first-is false k r x qs e h = e
+yes-all : 0 ≡ firstNo []
+unfolding firstNo
+yes-all = refl
 
-pub first-no-is : (h : Heard) (a : Asked) (inner : Bool) (depth parent root : ℕ) (may : Bool) → may ≡ parentAllowed (h .tag) parent → (r12 r11 r10 r9 r8 r7 r6 r5 : ℕ)
-    → r12 ≡ pick (ltb (h .binding) 2 && ltb (h .history) 3) 12 0 → r11 ≡ pick (a .apart) 11 r12 → r10 ≡ pick (not (not (eqb (h .kind) 3)) || a .complete) 10 r11
-    → r9 ≡ pick (not (not (eqb (h .kind) 3)) || not (eqb (h .tag) 1) || eqb root 0) 9 r10 → r8 ≡ pick (not (not (eqb (h .kind) 3)) || may) 8 r9
-    → r7 ≡ pick (not (not (eqb (h .kind) 3)) || ltb depth 32) 7 r8 → r6 ≡ pick (not (a .omitted)) 6 r7 → r5 ≡ pick (not (eqb (h .kind) 3) || inner) 5 r6
-    → r5 ≡ firstNo (questionsBy h a inner depth parent root)
-unfolding questionsBy firstNo
-first-no-is h a inner depth parent root may em r12 r11 r10 r9 r8 r7 r6 r5 e12 e11 e10 e9 e8 e7 e6 e5 =
-    first-is _ 5 r6 r5 (drop 1 (questionsBy h a inner depth parent root)) e5
-    (first-is _ 6 r7 r6 (drop 2 (questionsBy h a inner depth parent root)) e6
-    (first-is _ 7 r8 r7 (drop 3 (questionsBy h a inner depth parent root)) e7
-    (first-is _ 8 r9 r8 (drop 4 (questionsBy h a inner depth parent root)) (e8 ∙ ap (λ (m : Bool). pick (not (not (eqb (h .kind) 3)) || m) 8 r9) em)
-    (first-is _ 9 r10 r9 (drop 5 (questionsBy h a inner depth parent root)) e9
-    (first-is _ 10 r11 r10 (drop 6 (questionsBy h a inner depth parent root)) e10
-    (first-is _ 11 r12 r11 (drop 7 (questionsBy h a inner depth parent root)) e11
-    (first-is _ 12 0 r12 [] e12 refl)))))))
+-- Before other questions.
+pub no-before : (qs rs : List Question) → (firstNo qs ≡ 0 → ⊥) → firstNo qs ≡ firstNo (qs ++ rs)
+unfolding firstNo
+no-before [] rs h = absurd (h refl)
+no-before (q ∷ qs) rs h = go (q .yes) refl (no-before qs rs)
+  where
+    go : (b : Bool) → q .yes ≡ b → ((firstNo qs ≡ 0 → ⊥) → firstNo qs ≡ firstNo (qs ++ rs)) → firstNo (q ∷ qs) ≡ firstNo (q ∷ qs ++ rs)
+    go true e f = rw (e, firstNo) (f (rw (e, firstNo) at h))
+    go false e f = rw (e, firstNo)
+
+module _ (start : Bool) (g : ℕ) (done : Bool) (depth parent root : ℕ) where
+  abbrev S : ℕ
+  S = firstNo (startBy start g done depth parent root)
+
+  pub start-end : start ≡ false → 0 ≡ S
+  unfolding startBy firstNo
+  start-end e = sym (ap (λ (b : Bool). firstNo (startBy b g done depth parent root)) e)
+
+  module _ (e : start ≡ true) where
+    begun : firstNo (startBy true g done depth parent root) ≡ S
+    begun = ap (λ (b : Bool). firstNo (startBy b g done depth parent root)) (sym e)
+
+    pub no-7 : ltb depth 32 ≡ false → 7 ≡ S
+    unfolding startBy
+    no-7 a = no-here _ 7 _ a ∙ begun
+
+    module _ (x7 : ltb depth 32 ≡ true) where
+      pub no-8 : parentAllowed g parent ≡ false → 8 ≡ S
+      unfolding startBy
+      no-8 a = no-later _ 7 _ x7 8 (no-here _ 8 _ a) ∙ begun
+
+      module _ (x8 : parentAllowed g parent ≡ true) where
+        pub no-9 : (not (eqb g 1) || eqb root 0) ≡ false → 9 ≡ S
+        unfolding startBy
+        no-9 a = no-later _ 7 _ x7 9 (no-later _ 8 _ x8 9 (no-here _ 9 _ a)) ∙ begun
+
+        module _ (x9 : (not (eqb g 1) || eqb root 0) ≡ true) where
+          pub no-10 : done ≡ false → 10 ≡ S
+          unfolding startBy
+          no-10 a = no-later _ 7 _ x7 10 (no-later _ 8 _ x8 10 (no-later _ 9 _ x9 10 (no-here _ 10 [] a))) ∙ begun
+
+          pub start-yes : done ≡ true → 0 ≡ S
+          unfolding startBy
+          start-yes a = no-later _ 7 _ x7 0 (no-later _ 8 _ x8 0 (no-later _ 9 _ x9 0 (no-later _ 10 [] a 0 yes-all))) ∙ begun
+
+  none-before : S ≡ 0 → (rs : List Question) → firstNo (startBy start g done depth parent root ++ rs) ≡ firstNo rs
+  unfolding startBy
+  none-before e rs = go (not start || ltb depth 32) (not start || parentAllowed g parent) (not start || not (eqb g 1) || eqb root 0) (not start || done) e
+    where
+      go : (a b c d : Bool) → firstNo (record { yes = a; otherwise = 7 } ∷ record { yes = b; otherwise = 8 } ∷ record { yes = c; otherwise = 9 } ∷ record { yes = d; otherwise = 10 } ∷ []) ≡ 0
+          → firstNo (record { yes = a; otherwise = 7 } ∷ record { yes = b; otherwise = 8 } ∷ record { yes = c; otherwise = 9 } ∷ record { yes = d; otherwise = 10 } ∷ rs) ≡ firstNo rs
+      go true true true true e = unfold firstNo in refl
+      go true true true false e = unfold firstNo in absurd (omega (arith, e))
+      go true true false d e = unfold firstNo in absurd (omega (arith, e))
+      go true false c d e = unfold firstNo in absurd (omega (arith, e))
+      go false b c d e = unfold firstNo in absurd (omega (arith, e))
+
+module _ (src : List ℕ) (p : Plain) (ix : Keyed) (e : ix ≡ keyedOf (take (p .count) (p .slots))) (h : Heard) (eh : h .tag ≡ p .tag) (inner : Bool) (depth parent root : ℕ) where
+  abbrev a : Asked
+  a = askedIn (parsedIn src p)
+
+  abbrev Q : ℕ
+  Q = firstNo (questionsBy h a inner depth parent root)
+
+  abbrev start : Bool
+  start = not (eqb (h .kind) 3)
+
+  abbrev taken : Bool
+  taken = ltb (h .binding) 2 && ltb (h .history) 3
+
+  pub no-5 : (start || inner) ≡ false → 5 ≡ Q
+  unfolding questionsBy
+  no-5 x = no-here _ 5 _ x
+
+  module _ (x5 : (start || inner) ≡ true) (l : Bool) (el : l ≡ leftOutBy (isMarked ix) (p .tag)) where
+    out : a .omitted ≡ l
+    out = sym (el ∙ six src p ix e)
+
+    pub no-6 : l ≡ true → 6 ≡ Q
+    unfolding questionsBy
+    no-6 x = no-later _ 5 _ x5 6 (no-here _ 6 _ (ap not (out ∙ x)))
+
+    module _ (x6 : l ≡ false) (n : ℕ) (en : n ≡ S start (p .tag) (completeBy (isMarked ix) (p .tag)) depth parent root) where
+      unfoldable late : List Question
+      late = record { yes = a .apart; otherwise = 11 } ∷ record { yes = taken; otherwise = 12 } ∷ []
+
+      begins : n ≡ S start (h .tag) (a .complete) depth parent root
+      begins = en ∙ ap₂ (λ (g : ℕ) (c : Bool). S start g c depth parent root) (sym eh) (ten src p ix e)
+
+      past : (r : ℕ) → r ≡ firstNo (startBy start (h .tag) (a .complete) depth parent root ++ late) → r ≡ Q
+      unfolding questionsBy late
+      past r x = no-later _ 5 _ x5 r (no-later _ 6 _ (ap not (out ∙ x6)) r x)
+
+      pub no-start : (n ≡ 0 → ⊥) → n ≡ Q
+      no-start x = past n (begins ∙ no-before (startBy start (h .tag) (a .complete) depth parent root) late (λ z. x (begins ∙ z)))
+
+      module _ (z : n ≡ 0) (k : Bool) (ek : k ≡ apartBy (isMarked ix) (p .tag)) where
+        after : (r : ℕ) → r ≡ firstNo late → r ≡ Q
+        after r x = past r (x ∙ sym (none-before start (h .tag) (a .complete) depth parent root (sym begins ∙ z) late))
+
+        pub no-keys : k ≡ false → 11 ≡ Q
+        unfolding late
+        no-keys x = after 11 (no-here _ 11 _ (sym (eleven src p ix e) ∙ ap (λ (b : Bool). b && textApartIn (parsedIn src p)) (sym ek ∙ x)))
+
+        module _ (xk : k ≡ true) (t : Bool) (et : t ≡ textApartIn (parsedIn src p)) where
+          apart : a .apart ≡ t
+          apart = sym (eleven src p ix e) ∙ ap₂ (λ (b c : Bool). b && c) (sym ek ∙ xk) (sym et)
+
+          pub no-text : t ≡ false → 11 ≡ Q
+          unfolding late
+          no-text x = after 11 (no-here _ 11 _ (apart ∙ x))
+
+          module _ (xt : t ≡ true) where
+            pub no-12 : taken ≡ false → 12 ≡ Q
+            unfolding late
+            no-12 x = after 12 (no-later _ 11 _ (apart ∙ xt) 12 (no-here _ 12 [] x))
+
+            pub no-none : taken ≡ true → 0 ≡ Q
+            unfolding late
+            no-none x = after 0 (no-later _ 11 _ (apart ∙ xt) 0 (no-later _ 12 [] x 0 yes-all))

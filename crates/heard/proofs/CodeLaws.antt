@@ -16,9 +16,10 @@ use Rattle.words.specs.declared.Word.{Word}
 use Rattle.words.specs.Next.{nextWord, pieceAt}
 use Rattle.words.proofs.Laws.{by, next-order, next-inside, next-moves, next-none, next-some}
 use Rattle.plain.specs.declared.Plain.{Plain}
+use Rattle.plain.specs.declared.Keyed.{Keyed}
 use Rattle.plain.specs.Plain.{slotsOf, loadsIn, parsedIn}
-use Rattle.plain.specs.Keyed.{indexOf, isMarked, valueIn}
-use Rattle.plain.proofs.ValueLaws.{marked-has}
+use Rattle.plain.specs.Keyed.{keyedOf, isMarked, keyedBytes, valueIn}
+use Rattle.plain.proofs.ValueLaws.{marked-has, keyed-value}
 use Rattle.plan.specs.declared.Heard.{Heard}
 use Rattle.plan.specs.Ids.{stateId}
 use Rattle.heard.specs.Heard.{orElse, codeIn, wordsIn, heardIn, bareOf}
@@ -150,17 +151,19 @@ state-count v n h = h
 
 -- ---- all of it
 
-module _ (src : List ℕ) (p : Plain) (ix : List ℕ) (e : ix ≡ indexOf (slotsOf p)) where
+module _ (src : List ℕ) (p : Plain) (ix : Keyed) (e : ix ≡ keyedOf (slotsOf p)) where
   abbrev vs : List Load
   vs = loadsIn src (slotsOf p)
 
   pub there : (k : ℕ) → k < 31 → (r : Bool) → r ≡ isMarked ix k → r ≡ hasLoad k vs
   there k low r h = marked-has src k low (slotsOf p) ix e r h
 
-  pub code-in : (d g k : ℕ) → k < 31 → (b : Bool) → b ≡ isMarked ix k → (v : List ℕ) → v ≡ valueIn k vs → (c : ℕ) → c ≡ codeOf g k v → (r : ℕ) → r ≡ orElse b c d → r ≡ codeIn d g k vs
+  pub valued : (k : ℕ) → k < 31 → keyedBytes src ix k ≡ valueIn k vs
+  valued k low = keyed-value src k low (slotsOf p) ix e (keyedBytes src ix k) refl
+
+  pub code-in : (d g k : ℕ) → k < 31 → (b : Bool) → b ≡ isMarked ix k → (c : ℕ) → c ≡ codeOf g k (keyedBytes src ix k) → (r : ℕ) → r ≡ orElse b c d → r ≡ codeIn d g k vs
   unfolding codeIn
-  code-in d g k low b eb v ev c ec r er =
-      er ∙ ap₂ (λ (x : Bool) (y : ℕ). orElse x y d) (there k low b eb) (ec ∙ ap (codeOf g k) ev)
+  code-in d g k low b eb c ec r er = er ∙ ap₂ (λ (x : Bool) (y : ℕ). orElse x y d) (there k low b eb) (ec ∙ ap (codeOf g k) (valued k low))
 
   pub heard-is : (own found : ℕ) (h : Heard) → h .kind ≡ p .kind → h .tag ≡ p .tag → h .own .0 ≡ own → h .initial ≡ hasLoad 2 vs → h .expr ≡ hasLoad 19 vs → h .binds ≡ hasLoad 5 vs → h .binding ≡ codeIn 0 (p .tag) 5 vs
       → h .mode ≡ typeOf (codeIn 0 (p .tag) 7 vs) → h .history ≡ codeIn 1 (p .tag) 7 vs → h .wildcard ≡ codeOf (p .tag) 14 (valueIn 14 vs) → h .forward ≡ codeOf (p .tag) 13 (valueIn 13 vs)

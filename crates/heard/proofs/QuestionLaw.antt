@@ -27,7 +27,7 @@ use Rattle.heard.proofs.CodeLaws.{binding-other, type-other}
 use Rattle.plain.proofs.ValueLaws.{has-behind, value-behind}
 use Rattle.plain.proofs.LoadLaw.{Own, other, id, made-none}
 use Rattle.heard.proofs.FieldLaw.{has-law, length-law, code-law, field-law, field-some, field-no, fieldOf}
-use Rattle.heard.specs.Asked.{oneBy, allBy, pairsBy, leftOutBy, completeBy, apartBy, trimmedIn, textApartIn, askedIn, questionsBy}
+use Rattle.heard.specs.Asked.{oneBy, allBy, pairsBy, leftOutBy, completeBy, apartBy, trimmedIn, textApartIn, askedIn, startBy, questionsBy}
 use Rattle.heard.proofs.AskedLaws.{keysIn, listsIn, allIn, pairsIn, left-alike, complete-alike, apart-alike}
 
 -- ---- the definition's tests, by which keys are there
@@ -250,7 +250,7 @@ module _ (s : Store) (e : Event) where
   -- THE QUESTIONS
   pub questions-law : (L : Limits) → L .opened ≡ 32 → (n : Numbers)
       → questions L n l ≡ questionsBy (heard l) (askedIn (parsedOf e)) (l .innermost) (length (tableOf n 9)) (parentTag n) (root n)
-  unfolding questions questionsBy heard askedIn parsedOf look isStart
+  unfolding questions questionsBy startBy heard askedIn parsedOf look isStart
   questions-law L h n =
       λ i.
       record { yes = not (eqb (e .kind) 3) || l .innermost; otherwise = 5 }

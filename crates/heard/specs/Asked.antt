@@ -2,7 +2,7 @@
 use Prim.Native.Nat.{ℕ}
 use mathlib.Core.Bool.{Bool, true, false, not, _&&_, _||_}
 use mathlib.Core.Option.{Option, none, some}
-use mathlib.Core.List.{List, [], _∷_}
+use mathlib.Core.List.{List, [], _∷_, _++_}
 use lib.ListN.{length}
 use lib.Dec.{eqb, leb, ltb}
 use Rattle.definition.specs.Limits.{limits01}
@@ -15,7 +15,6 @@ use Rattle.definition.specs.Reader.{Question, _otherwise_}
 use Rattle.plain.specs.Plain.{Parsed}
 use Rattle.plain.specs.Keyed.{valueIn}
 use Rattle.plan.specs.declared.Heard.{Heard}
-use Rattle.heard.specs.declared.Asked.{Asked}
 
 unfoldable pub oneBy : (ℕ → Bool) → List ℕ → Bool
 oneBy f [] = false
@@ -57,24 +56,33 @@ textApartIn v =
 abbrev pub there : Parsed → ℕ → Bool
 there v k = hasLoad k (v .values)
 
+-- omitted: question 6. complete: 10. apart: 11.
+pub record Asked : Type 0 where
+  pub omitted : Bool
+  pub complete : Bool
+  pub apart : Bool
+
 unfoldable pub askedIn : Parsed → Asked
 unfolding leftOutBy completeBy apartBy textApartIn
 askedIn v = record { omitted = leftOutBy (there v) (v .tag); complete = completeBy (there v) (v .tag); apart = apartBy (there v) (v .tag) && textApartIn v }
 
-unfoldable pub pick : Bool → ℕ → ℕ → ℕ
-pick true k r = r
-pick false k r = k
+-- The questions 7 to 10, which an end is not asked.
+unfoldable pub startBy : Bool → ℕ → Bool → ℕ → ℕ → ℕ → List Question
+unfolding parentAllowed
+startBy start g complete depth parent root =
+    ((not start || ltb depth (limits01 .opened)) otherwise 7)
+    ∷ ((not start || parentAllowed g parent) otherwise 8)
+    ∷ ((not start || not (eqb g (tag .scxml)) || eqb root 0) otherwise 9)
+    ∷ ((not start || complete) otherwise 10)
+    ∷ []
 
 unfoldable pub questionsBy : Heard → Asked → Bool → ℕ → ℕ → ℕ → List Question
-unfolding parentAllowed
+unfolding startBy
 questionsBy h a innermost depth parent root =
     let start : Bool = not (eqb (h .kind) (kind .ends)) in
     ((start || innermost) otherwise 5)
     ∷ (not (a .omitted) otherwise 6)
-    ∷ ((not start || ltb depth (limits01 .opened)) otherwise 7)
-    ∷ ((not start || parentAllowed (h .tag) parent) otherwise 8)
-    ∷ ((not start || not (eqb (h .tag) (tag .scxml)) || eqb root 0) otherwise 9)
-    ∷ ((not start || a .complete) otherwise 10)
-    ∷ (a .apart otherwise 11)
+    ∷ (startBy start (h .tag) (a .complete) depth parent root
+    ++ ((a .apart otherwise 11)
     ∷ ((ltb (h .binding) 2 && ltb (h .history) 3) otherwise 12)
-    ∷ []
+    ∷ []))

@@ -9,6 +9,7 @@ use definition::codes::Tag;
 use definition::one_if;
 use names::is_at;
 use nesting::parent_allowed;
+use plain::Keyed;
 use plain::Plain;
 use plain::bytes_of;
 use plain::has;
@@ -33,12 +34,12 @@ ghost use Rattle.definition.specs.Elements as E;
 ghost use Rattle.definition.specs.Look.{codeOf, wordSpans, findDatum, isInnermost};
 ghost use Rattle.definition.specs.Actions.{typeOf};
 ghost use Rattle.plain.specs.Plain.{slotsOf, parsedIn};
-ghost use Rattle.plain.specs.Keyed.{indexOf, isMarked};
+ghost use Rattle.plain.specs.Keyed.{keyedOf, isMarked, keyedBytes};
 ghost use Rattle.heard.specs.Heard.{orElse, heardIn, bareOf};
 ghost use mathlib.Core.Bool.{not, _&&_};
 ghost use lib.Dec.{eqb, leb};
 ghost use Rattle.definition.specs.Reader.{firstNo};
-ghost use Rattle.heard.specs.Asked.{leftOutBy, completeBy, apartBy, trimmedIn, textApartIn, askedIn, pick, questionsBy};
+ghost use Rattle.heard.specs.Asked.{leftOutBy, completeBy, apartBy, trimmedIn, textApartIn, askedIn, startBy, questionsBy};
 ghost use Rattle.heard.specs.Found.{isDatum, foundIn};
 
 fn or_else(there: bool, x: u32, d: u32) -> u32
@@ -50,40 +51,41 @@ fn or_else(there: bool, x: u32, d: u32) -> u32
     d
 }
 
-fn binding_of(tag: u32, v: &[u8]) -> u32
-    ensures { λ r. ⌜ r ≡ codeOf tag (key .binding) (now (v .entry)) ⌝ }
+// The codes and counts of keys: a value is cut out only for an element that has a code of it.
+fn binding_of(src: &[u8], ix: Keyed, tag: u32) -> u32
+    ensures { λ r. ⌜ r ≡ codeOf tag (key .binding) (keyedBytes (now (src .entry)) ix (key .binding)) ⌝ }
 {
     if tag == Tag::SCXML {
-        return binding_code(v);
+        return binding_code(value(src, ix, Key::BINDING));
     }
     0
 }
 
-fn type_code(tag: u32, v: &[u8]) -> u32
-    ensures { λ r. ⌜ r ≡ codeOf tag (key .type) (now (v .entry)) ⌝ }
+fn type_code(src: &[u8], ix: Keyed, tag: u32) -> u32
+    ensures { λ r. ⌜ r ≡ codeOf tag (key .type) (keyedBytes (now (src .entry)) ix (key .type)) ⌝ }
 {
     if tag == Tag::HISTORY {
-        return history_code(v);
+        return history_code(value(src, ix, Key::TYPE));
     }
     if tag == Tag::TRANSITION {
-        return transition_code(v);
+        return transition_code(value(src, ix, Key::TYPE));
     }
     0
 }
 
-fn wildcard_of(tag: u32, v: &[u8]) -> u32
-    ensures { λ r. ⌜ r ≡ codeOf tag (key .event) (now (v .entry)) ⌝ }
+fn wildcard_of(src: &[u8], ix: Keyed, tag: u32) -> u32
+    ensures { λ r. ⌜ r ≡ codeOf tag (key .event) (keyedBytes (now (src .entry)) ix (key .event)) ⌝ }
 {
     if tag == Tag::TRANSITION {
-        return one_if(is_wildcard(v));
+        return one_if(is_wildcard(value(src, ix, Key::EVENT)));
     }
     0
 }
 
-fn forward_of(tag: u32, v: &[u8]) -> u32
-    ensures { λ r. ⌜ r ≡ codeOf tag (key .autoforward) (now (v .entry)) ⌝ }
+fn forward_of(src: &[u8], ix: Keyed, tag: u32) -> u32
+    ensures { λ r. ⌜ r ≡ codeOf tag (key .autoforward) (keyedBytes (now (src .entry)) ix (key .autoforward)) ⌝ }
 {
-    one_if(is_true(v))
+    one_if(is_true(value(src, ix, Key::AUTOFORWARD)))
 }
 
 fn type_of(code: u32) -> u32
@@ -134,24 +136,22 @@ fn state_words(v: &[u8]) -> usize
 }
 
 // How many event words a transition has.
-fn events_of(tag: u32, v: &[u8]) -> u32
-    requires { ⌜ length (now v) < 65536 ⌝ }
-    ensures { λ r. ⌜ r ≡ length (wordSpans tag (key .event) (now (v .entry))) ⌝ }
+fn events_of(src: &[u8], ix: Keyed, tag: u32) -> u32
+    ensures { λ r. ⌜ r ≡ length (wordSpans tag (key .event) (keyedBytes (now (src .entry)) ix (key .event))) ⌝ }
 {
     if tag == Tag::TRANSITION {
-        let n = event_words(v);
+        let n = event_words(value(src, ix, Key::EVENT));
         return n as u32;
     }
     0
 }
 
 // How many words the namelist of a send or an invoke has.
-fn names_of(tag: u32, v: &[u8]) -> u32
-    requires { ⌜ length (now v) < 65536 ⌝ }
-    ensures { λ r. ⌜ r ≡ length (wordSpans tag (key .namelist) (now (v .entry))) ⌝ }
+fn names_of(src: &[u8], ix: Keyed, tag: u32) -> u32
+    ensures { λ r. ⌜ r ≡ length (wordSpans tag (key .namelist) (keyedBytes (now (src .entry)) ix (key .namelist))) ⌝ }
 {
     if (tag == Tag::SEND) | (tag == Tag::INVOKE) {
-        let n = state_words(v);
+        let n = state_words(value(src, ix, Key::NAMELIST));
         return n as u32;
     }
     0
@@ -179,8 +179,8 @@ fn bare(kind: u32, tag: u32, own: StateId, found: u32) -> Heard
     }
 }
 
-pub fn heard(src: &[u8], p: Plain, ix: [u8; Plain::KEYS], own: StateId, found: u32) -> Heard
-    requires { ⌜ ix ≡ indexOf (slotsOf p) ⌝ }
+pub fn heard(src: &[u8], p: Plain, ix: Keyed, own: StateId, found: u32) -> Heard
+    requires { ⌜ ix ≡ keyedOf (slotsOf p) ⌝ }
     ensures { λ r. ⌜ r ≡ heardIn (own .0) found (parsedIn (now (src .entry)) p) ⌝ }
 {
     let tag = p.tag;
@@ -191,13 +191,12 @@ pub fn heard(src: &[u8], p: Plain, ix: [u8; Plain::KEYS], own: StateId, found: u
     let expr = has(ix, Key::EXPR);
     let binds = has(ix, Key::BINDING);
     let typed = has(ix, Key::TYPE);
-    let binding = binding_of(tag, value(src, p, ix, Key::BINDING));
-    let code = type_code(tag, value(src, p, ix, Key::TYPE));
-    let events = value(src, p, ix, Key::EVENT);
-    let wildcard = wildcard_of(tag, events);
-    let count = events_of(tag, events);
-    let forward = forward_of(tag, value(src, p, ix, Key::AUTOFORWARD));
-    let names = names_of(tag, value(src, p, ix, Key::NAMELIST));
+    let binding = binding_of(src, ix, tag);
+    let code = type_code(src, ix, tag);
+    let wildcard = wildcard_of(src, ix, tag);
+    let count = events_of(src, ix, tag);
+    let forward = forward_of(src, ix, tag);
+    let names = names_of(src, ix, tag);
     let bound = or_else(binds, binding, 0);
     let mode = type_of(or_else(typed, code, 0));
     let history = or_else(typed, code, 1);
@@ -219,15 +218,8 @@ pub fn heard(src: &[u8], p: Plain, ix: [u8; Plain::KEYS], own: StateId, found: u
     }
 }
 
-/// omitted: question 6. complete: 10. apart: 11.
-pub struct Asked {
-    pub omitted: bool,
-    pub complete: bool,
-    pub apart: bool,
-}
-
 // include; data or script with `src`; send with `delay`.
-fn left_out(ix: [u8; Plain::KEYS], tag: u32) -> bool
+fn left_out(ix: Keyed, tag: u32) -> bool
     ensures { λ r. ⌜ r ≡ leftOutBy (isMarked ix) tag ⌝ }
 {
     if tag == Tag::INCLUDE {
@@ -242,7 +234,7 @@ fn left_out(ix: [u8; Plain::KEYS], tag: u32) -> bool
     false
 }
 
-fn complete(ix: [u8; Plain::KEYS], tag: u32) -> bool
+fn complete(ix: Keyed, tag: u32) -> bool
     ensures { λ r. ⌜ r ≡ completeBy (isMarked ix) tag ⌝ }
 {
     if tag == Tag::DATA {
@@ -277,7 +269,7 @@ fn complete(ix: [u8; Plain::KEYS], tag: u32) -> bool
 }
 
 // Two keys of one element that exclude each other: three elements have such keys.
-fn keys_apart(ix: [u8; Plain::KEYS], tag: u32) -> bool
+fn keys_apart(ix: Keyed, tag: u32) -> bool
     ensures { λ r. ⌜ r ≡ apartBy (isMarked ix) tag ⌝ }
 {
     let send = Tag::SEND == tag;
@@ -286,12 +278,13 @@ fn keys_apart(ix: [u8; Plain::KEYS], tag: u32) -> bool
     if !(send | cancel | param) {
         return true;
     }
-    let event = send & !(ix[Key::EVENT] == 0) & !(ix[Key::EVENTEXPR] == 0);
-    let target = send & !(ix[Key::TARGET] == 0) & !(ix[Key::TARGETEXPR] == 0);
-    let kind = send & !(ix[Key::TYPE] == 0) & !(ix[Key::TYPEEXPR] == 0);
-    let id = send & !(ix[Key::ID] == 0) & !(ix[Key::IDLOCATION] == 0);
-    let sendid = cancel & !(ix[Key::SENDID] == 0) & !(ix[Key::SENDIDEXPR] == 0);
-    let expr = param & !(ix[Key::EXPR] == 0) & !(ix[Key::LOCATION] == 0);
+    let there = ix.there;
+    let event = send & !(there[Key::EVENT] == 0) & !(there[Key::EVENTEXPR] == 0);
+    let target = send & !(there[Key::TARGET] == 0) & !(there[Key::TARGETEXPR] == 0);
+    let kind = send & !(there[Key::TYPE] == 0) & !(there[Key::TYPEEXPR] == 0);
+    let id = send & !(there[Key::ID] == 0) & !(there[Key::IDLOCATION] == 0);
+    let sendid = cancel & !(there[Key::SENDID] == 0) & !(there[Key::SENDIDEXPR] == 0);
+    let expr = param & !(there[Key::EXPR] == 0) & !(there[Key::LOCATION] == 0);
     !event & (!target & (!kind & (!id & (!sendid & (!expr & true)))))
 }
 
@@ -318,8 +311,8 @@ fn data_apart(src: &[u8], p: Plain, tag: u32, expr: bool) -> bool
 }
 
 // A text beside expr: only a whole event has a text.
-fn text_apart(src: &[u8], p: Plain, ix: [u8; Plain::KEYS]) -> bool
-    requires { ⌜ ix ≡ indexOf (slotsOf p) ⌝ }
+fn text_apart(src: &[u8], p: Plain, ix: Keyed) -> bool
+    requires { ⌜ ix ≡ keyedOf (slotsOf p) ⌝ }
     ensures { λ r. ⌜ r ≡ textApartIn (parsedIn (now (src .entry)) p) ⌝ }
 {
     let tag = p.tag;
@@ -327,25 +320,9 @@ fn text_apart(src: &[u8], p: Plain, ix: [u8; Plain::KEYS]) -> bool
         return true;
     }
     let expr = has(ix, Key::EXPR);
-    let v = value(src, p, ix, Key::EXPR);
+    let v = value(src, ix, Key::EXPR);
     let data = data_apart(src, p, tag, expr);
     data & !((tag == Tag::CONTENT) & expr) & !((tag == Tag::ASSIGN) & (1 <= v.len()))
-}
-
-pub fn ask(src: &[u8], p: Plain, ix: [u8; Plain::KEYS]) -> Asked
-    requires { ⌜ ix ≡ indexOf (slotsOf p) ⌝ }
-    ensures { λ r. ⌜ r ≡ askedIn (parsedIn (now (src .entry)) p) ⌝ }
-{
-    let tag = p.tag;
-    let left = left_out(ix, tag);
-    let all = complete(ix, tag);
-    let keys = keys_apart(ix, tag);
-    let text = text_apart(src, p, ix);
-    Asked {
-        omitted: left,
-        complete: all,
-        apart: keys & text,
-    }
 }
 
 // How many words a binding and a type may be: one that is not taken has the code after the last.
@@ -353,30 +330,64 @@ const BINDINGS: u32 = 2;
 
 const TYPES: u32 = 3;
 
-fn choose(yes: bool, otherwise: u32, rest: u32) -> u32
-    ensures { λ r. ⌜ r ≡ pick yes otherwise rest ⌝ }
+// The first no of the questions 7 to 10, which an end is not asked; 0 if there is none.
+fn start_no(start: bool, ix: Keyed, tag: u32, depth: u32, parent: u32, root: u32) -> u32
+    ensures { λ r. ⌜ r ≡ firstNo (startBy start tag (completeBy (isMarked ix) tag) depth parent root) ⌝ }
 {
-    if yes {
-        return rest;
+    if !start {
+        return 0;
     }
-    otherwise
+    if !(depth < Chart::OPENED) {
+        return 7;
+    }
+    if !parent_allowed(tag, parent) {
+        return 8;
+    }
+    if !(!(tag == Tag::SCXML) | (root == 0)) {
+        return 9;
+    }
+    if !complete(ix, tag) {
+        return 10;
+    }
+    0
 }
 
-// The first no of the questions 5 to 12, 0 if there is none: `depth` elements are open, the innermost has the tag `parent`.
-pub fn first_no(h: Heard, a: Asked, innermost: bool, depth: u32, parent: u32, root: u32) -> u32
-    ensures { λ r. ⌜ r ≡ firstNo (questionsBy h a innermost depth parent root) ⌝ }
+// Of the questions 5 to 12, each asked only after a yes to those before it: `depth` elements are open, the innermost has the tag `parent`.
+pub fn first_no(
+    src: &[u8],
+    p: Plain,
+    ix: Keyed,
+    h: Heard,
+    innermost: bool,
+    depth: u32,
+    parent: u32,
+    root: u32,
+) -> u32
+    requires { ⌜ (h .tag ≡ p .tag) × (ix ≡ keyedOf (slotsOf p)) ⌝ }
+    ensures { λ r. ⌜ r ≡ firstNo (questionsBy h (askedIn (parsedIn (now (src .entry)) p)) innermost depth parent root) ⌝ }
 {
-    let tag = h.tag;
+    let tag = p.tag;
     let start = !(h.kind == Kind::END);
-    let may = parent_allowed(tag, parent);
-    let q12 = choose((h.binding < BINDINGS) & (h.history < TYPES), 12, 0);
-    let q11 = choose(a.apart, 11, q12);
-    let q10 = choose(!start | a.complete, 10, q11);
-    let q9 = choose(!start | !(tag == Tag::SCXML) | (root == 0), 9, q10);
-    let q8 = choose(!start | may, 8, q9);
-    let q7 = choose(!start | (depth < Chart::OPENED), 7, q8);
-    let q6 = choose(!a.omitted, 6, q7);
-    choose(start | innermost, 5, q6)
+    if !(start | innermost) {
+        return 5;
+    }
+    if left_out(ix, tag) {
+        return 6;
+    }
+    let no = start_no(start, ix, tag, depth, parent, root);
+    if no != 0 {
+        return no;
+    }
+    if !keys_apart(ix, tag) {
+        return 11;
+    }
+    if !text_apart(src, p, ix) {
+        return 11;
+    }
+    if (h.binding < BINDINGS) & (h.history < TYPES) {
+        return 0;
+    }
+    12
 }
 
 fn is_datum(row: [u32; 8], text: &[u8], state: u32, w: &[u8]) -> bool
@@ -406,19 +417,12 @@ fn find_datum(datums: &[[u32; 8]], text: &[u8], state: u32, w: &[u8]) -> usize
 }
 
 // Of data; 0 of other elements.
-pub fn found(
-    datums: &[[u32; 8]],
-    text: &[u8],
-    state: u32,
-    src: &[u8],
-    p: Plain,
-    ix: [u8; Plain::KEYS],
-) -> usize
-    requires { ⌜ ix ≡ indexOf (slotsOf p) ⌝ }
+pub fn found(datums: &[[u32; 8]], text: &[u8], state: u32, src: &[u8], p: Plain, ix: Keyed) -> usize
+    requires { ⌜ ix ≡ keyedOf (slotsOf p) ⌝ }
     ensures { λ r. ⌜ r ≡ foundIn (now (text .entry)) (now (datums .entry)) state (parsedIn (now (src .entry)) p) ⌝ }
 {
     if p.tag == Tag::DATA {
-        let w = value(src, p, ix, Key::ID);
+        let w = value(src, ix, Key::ID);
         return find_datum(datums, text, state, w);
     }
     0

@@ -20,7 +20,6 @@ use Rattle.plain.specs.Plain.{slotBytes, Parsed, parsedIn}
 use Rattle.plain.specs.Keyed.{valueIn}
 use Rattle.plan.specs.declared.Heard.{Heard}
 use Rattle.heard.specs.Heard.{heardIn}
-use Rattle.heard.specs.declared.Asked.{Asked}
 use Rattle.heard.specs.Asked.{askedIn, questionsBy}
 use Rattle.heard.specs.Found.{foundIn, isDatum}
 use Rattle.payload.specs.Payload.{madeIn, chargeIn}
@@ -82,18 +81,18 @@ module _ (cs ss ds xs ns : Table) (t : List ℕ) (p : Position) (src : List ℕ)
   abbrev v : Parsed
   v = parsedIn src pl
 
-  pub looked-is : (n : Names) → n ≡ namesIn t (nameCells ss) (p .names) v → (s : ℕ) → s ≡ num (lastOf [] xs) 1 → (f : ℕ) → f ≡ foundIn t ds s v → (h : Heard) → h ≡ heardIn (n .own) f v → (q : Asked) → q ≡ askedIn v
+  pub looked-is : (n : Names) → n ≡ namesIn t (nameCells ss) (p .names) v → (s : ℕ) → s ≡ num (lastOf [] xs) 1 → (f : ℕ) → f ≡ foundIn t ds s v → (h : Heard) → h ≡ heardIn (n .own) f v
       → (w : List ℕ) → w ≡ slotBytes src (pl .name) → (inner : Bool) → inner ≡ isInnermost xs ns (pl .tag) w
       → (parent : ℕ) → parent ≡ num (lastOf [] xs) 0 → (root : ℕ) → root ≡ num (getD cs 0 []) 0
-      → (first : ℕ) → first ≡ firstNo (questionsBy h q inner (p .opened) parent root) → (made : Bool) → made ≡ madeIn v → (c : ℕ) → c ≡ chargeIn v (p .names)
+      → (first : ℕ) → first ≡ firstNo (questionsBy h (askedIn v) inner (p .opened) parent root) → (made : Bool) → made ≡ madeIn v → (c : ℕ) → c ≡ chargeIn v (p .names)
       → record { no = first; heard = h; refs = n .refs; new = n .new; made = made; charge = c } ≡ lookedIn cs ss ds xs ns t p v
   unfolding lookedIn parsedIn
-  looked-is n en s es f ef h eh q eq w ew inner ei parent ep root er first eo made em c ec =
+  looked-is n en s es f ef h eh w ew inner ei parent ep root er first eo made em c ec =
       let H : h ≡ heardIn (namesIn t (nameCells ss) (p .names) v .own) (foundIn t ds (num (lastOf [] xs) 1) v) v = eh ∙ ap₂ (λ (x : Names) (y : ℕ). heardIn (x .own) y v) en (ef ∙ ap (λ (x : ℕ). foundIn t ds x v) es) in
       let I : inner ≡ isInnermost xs ns (pl .tag) (slotBytes src (pl .name)) = ei ∙ ap (isInnermost xs ns (pl .tag)) ew in
       λ i.
       record {
-        no = (eo ∙ (λ j. firstNo (questionsBy (H j) (eq j) (I j) (p .opened) (ep j) (er j)))) i;
+        no = (eo ∙ (λ j. firstNo (questionsBy (H j) (askedIn v) (I j) (p .opened) (ep j) (er j)))) i;
         heard = H i;
         refs = en i .refs;
         new = en i .new;

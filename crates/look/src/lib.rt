@@ -3,7 +3,6 @@ use definition::Position;
 use definition::StateId;
 use definition::cells::ChartColumn;
 use definition::cells::OpenColumn;
-use heard::ask;
 use heard::first_no;
 use heard::found;
 use heard::heard;
@@ -74,18 +73,18 @@ pub fn look(
     ensures { λ r. ⌜ r ≡ lookedIn (now (chart .entry)) (now (states .entry)) (now (datums .entry)) (now (opened .entry)) (now («open_names» .entry)) (now (text .entry)) position (parsedIn (now (src .entry)) p) ⌝ }
 {
     let drawn = position.names;
-    let ix = index(p);
+    let all = index(src, p);
+    let ix = all.keyed;
     let n = look_names(states, text, src, p, ix, drawn);
     let f = found(datums, text, inside(opened, OpenColumn::STATE), src, p, ix);
     let own = n.own;
     let h = heard(src, p, ix, StateId(own as u32), f as u32);
-    let q = ask(src, p, ix);
     let inner = is_innermost(opened, open_names, p.tag, bytes_of(src, p.name));
     let parent = inside(opened, OpenColumn::TAG);
     let root = root_of(chart);
-    let no = first_no(h, q, inner, position.opened, parent, root);
+    let no = first_no(src, p, ix, h, inner, position.opened, parent, root);
     let made = is_made(src, p, ix);
-    let c = charge(src, p, made, drawn);
+    let c = charge(src, p, all.total, made, drawn);
     let refs = n.refs;
     let new = n.new;
     Looked {

@@ -6,19 +6,18 @@ use mathlib.Core.List.{List, [], _∷_}
 use native.Mathlib.Numerals.{add-one}
 use native.Mathlib.Omega.{arith}
 use lib.Dec.{eqb, ltb}
-use lib.ListN.{length, getD, take, drop, drop-of-length-le, length-drop, length-take}
-use lib.Seq.{drop-cons, getD-take, getD-drop, length-take-le}
-use borrow.Author.Tests.{ltb-true, ltb-false, lt-ltb, le-ltb, eqb-true, eqb-false, eq-eqb, ne-eqb}
+use lib.ListN.{length, getD, take, drop, drop-of-length-le, length-take}
+use lib.Seq.{drop-cons, getD-take}
+use borrow.Author.Tests.{ltb-true, ltb-false}
 use Rattle.definition.specs.Text.{same, bytesAt, Piece, pieces, emit, isSeparator, stateWords, wordsBy}
 use Rattle.definition.specs.Rows.{Cell, textAt, textFrom, cellAt}
 use Rattle.definition.specs.Look.{findName, nameCells}
-use Rattle.definition.proofs.Base.{same-length, same-eq}
 use Rattle.text.proofs.Laws.{same-empty}
 use Rattle.words.specs.declared.Word.{Word}
 use Rattle.words.specs.Next.{nextWord, pieceAt}
 use Rattle.words.proofs.Laws.{by, next-order, next-inside, next-moves, next-none, next-some}
 use Rattle.names.specs.declared.Names.{Names}
-use Rattle.names.specs.Names.{lastByte, mayBe, wordsFrom, occurs, newIf, isKnown, newIn, firstOf, firstNonzero, counted}
+use Rattle.names.specs.Names.{wordsFrom, occurs, newIf, isKnown, newIn, firstOf, firstNonzero, counted}
 
 -- ---- a cell's text
 
@@ -40,97 +39,6 @@ module _ (t : List ℕ) (at len : ℕ) (w : List ℕ) where
 
   pub cell-same : (off long : ℕ) (r : Bool) → (at ≡ 0 → ⊥) → off ≡ at - 1 → long ≡ len → r ≡ same (bytesAt t (record { off = off; len = long })) w → r ≡ same here w
   cell-same off long r h e f g = g ∙ ap (λ (n : ℕ). same (bytesAt t (record { off = off; len = n })) w) f ∙ ap (λ (x : List ℕ). same x w) (cell-bytes off h e)
-
-  -- of a cell inside the text
-  module _ (off long : ℕ) (h : at ≡ 0 → ⊥) (e : off ≡ at - 1) (f : long ≡ len) (inside : off + long ≤ length t) where
-    abbrev bytes : List ℕ
-    bytes = take long (drop off t)
-
-    size : length bytes ≡ long
-    size = length-take-le long (drop off t) (omega (arith, length-drop off t))
-
-    by-bytes : (r : Bool) → r ≡ same bytes w → r ≡ same here w
-    unfolding bytesAt
-    by-bytes r g = cell-same off long r h e f g
-
-    cell-longer : (long ≡ length w → ⊥) → false ≡ same here w
-    cell-longer g = by-bytes false (sym (same-length bytes w (λ z. g (sym size ∙ z))))
-
-    cell-last : (last : ℕ) → last < long → (getD t (off + last) 0 ≡ getD w last 0 → ⊥) → false ≡ same here w
-    cell-last last l g = by-bytes false (sym (by (same bytes w) (λ q. absurd (g (at-last q))) (λ q. q)))
-      where
-        at-last : same bytes w ≡ true → getD t (off + last) 0 ≡ getD w last 0
-        at-last q = sym (getD-drop off t last 0) ∙ sym (getD-take long (drop off t) last 0 l) ∙ ap (λ (x : List ℕ). getD x last 0) (same-eq bytes w q)
-
--- ---- what is asked of a cell first
-
-pub last-none : (w : List ℕ) → length w ≡ 0 → 0 ≡ lastByte w
-unfolding lastByte
-last-none [] e = refl
-last-none (b ∷ bs) e = absurd (omega (arith, e))
-
--- The tests in their order: past the text, as long, empty, the last byte.
-abbrev tests : Bool → Bool → Bool → Bool → Bool
-tests a b c d = elim a [ true ↦ true | false ↦ elim b [ false ↦ false | true ↦ elim c [ true ↦ true | false ↦ d ] ] ]
-
-tests-no : {X : Type 0} (a b c d : Bool) → tests a b c d ≡ false → (a ≡ false → b ≡ false → X) → (a ≡ false → b ≡ true → c ≡ false → d ≡ false → X) → X
-tests-no true b c d e f g = let z : _≡_ {A = ℕ} 0 1 = cc in absurd (omega (arith, z))
-tests-no false false c d e f g = f refl refl
-tests-no false true true d e f g = let z : _≡_ {A = ℕ} 0 1 = cc in absurd (omega (arith, z))
-tests-no false true false d e f g = g refl refl refl e
-
-module _ (t : List ℕ) (at len long last : ℕ) where
-  pub may-absent : at ≡ 0 → true ≡ mayBe t at len long last
-  unfolding mayBe
-  may-absent e = rw e
-
-  module _ (size end : ℕ) (h : at ≡ 0 → ⊥) (f : size ≡ len) (e : end ≡ at - 1 + size) where
-    abbrev there : Bool
-    there = eqb (getD t (end - 1) 0) last
-
-    may-by : tests (ltb (length t) end) (eqb size long) (eqb size 0) there ≡ mayBe t at len long last
-    unfolding mayBe
-    may-by = go at h e
-      where
-        go : (a : ℕ) → (a ≡ 0 → ⊥) → end ≡ a - 1 + size → tests (ltb (length t) end) (eqb size long) (eqb size 0) there ≡ mayBe t a len long last
-        go zero h e = absurd (h refl)
-        go (suc off) h e = let z : end ≡ off + len = omega (arith, e, f) in rw (z, f)
-
-    pub may-past : length t < end → true ≡ mayBe t at len long last
-    may-past p = sym (ap (λ (a : Bool). tests a (eqb size long) (eqb size 0) there) (lt-ltb (length t) end p)) ∙ may-by
-
-    module _ (inside : end ≤ length t) where
-      in-text : tests false (eqb size long) (eqb size 0) there ≡ mayBe t at len long last
-      in-text = sym (ap (λ (a : Bool). tests a (eqb size long) (eqb size 0) there) (le-ltb (length t) end inside)) ∙ may-by
-
-      pub may-differ : (size ≡ long → ⊥) → false ≡ mayBe t at len long last
-      may-differ d = sym (ap (λ (b : Bool). tests false b (eqb size 0) there) (ne-eqb size long d)) ∙ in-text
-
-      pub may-empty : size ≡ long → size ≡ 0 → true ≡ mayBe t at len long last
-      may-empty s z = sym (ap₂ (λ (b c : Bool). tests false b c there) (eq-eqb size long s) (eq-eqb size 0 z)) ∙ in-text
-
-      pub may-end : size ≡ long → (size ≡ 0 → ⊥) → there ≡ mayBe t at len long last
-      may-end s z = sym (ap₂ (λ (b c : Bool). tests false b c there) (eq-eqb size long s) (ne-eqb size 0 z)) ∙ in-text
-
--- A cell that may not be w is not.
-pub may-not : (t : List ℕ) (at len : ℕ) (w : List ℕ) (long last : ℕ) → long ≡ length w → last ≡ lastByte w → mayBe t at len long last ≡ false → same (textAt t (record { at = at; len = len })) w ≡ false
-unfolding mayBe lastByte
-may-not t zero len w long last el ea e = let z : _≡_ {A = ℕ} 0 1 = cc in absurd (omega (arith, z))
-may-not t (suc off) len w long last el ea e =
-    tests-no (ltb (length t) (off + len)) (eqb len long) (eqb len 0) (eqb (getD t (off + len - 1) 0) last) e
-    (λ a b. sym (cell-longer t (suc off) len w off len (λ z. omega (arith, z)) (omega arith) refl (ltb-false (length t) (off + len) a) (λ z. eqb-false len long b (z ∙ sym el))))
-    (λ a b c d.
-    let s : len ≡ length w = eqb-true len long b ∙ el in
-    let q : ¬ (len ≡ 0) = eqb-false len 0 c in
-    let l : len - 1 < len = below len q in
-    let p : off + (len - 1) ≡ off + len - 1 = omega (arith, l) in
-    let m : len - 1 ≡ length w - 1 = omega (arith, s) in
-    sym (cell-last t (suc off) len w off len (λ z. omega (arith, z)) (omega arith) refl (ltb-false (length t) (off + len) a) (len - 1) l
-    (λ z. eqb-false (getD t (off + len - 1) 0) last d (ap (λ (n : ℕ). getD t n 0) (sym p) ∙ z ∙ ap (λ (n : ℕ). getD w n 0) m ∙ sym ea))))
-  where
-    below : (n : ℕ) → ¬ (n ≡ 0) → n - 1 < n
-    below zero q = absurd (q refl)
-    below (suc n) q = omega arith
 
 -- ---- finding a name
 
@@ -165,7 +73,7 @@ module _ (rows : List (List ℕ)) (count : ℕ) (fits : count ≤ length rows) (
   abbrev cell : Cell
   cell = record { at = getD (getD rows i []) 0 0; len = getD (getD rows i []) 1 0 }
 
-  cells-next : i < count → nameCells (drop i (take count rows)) ≡ cell ∷ nameCells (drop (i + 1) (take count rows))
+  pub cells-next : i < count → nameCells (drop i (take count rows)) ≡ cell ∷ nameCells (drop (i + 1) (take count rows))
   unfolding nameCells cellAt
   cells-next h =
       let m : i < length (take count rows) = omega (arith, length-take count rows) in

@@ -1,4 +1,5 @@
 pub mod Laws
+pub mod LikeLaws
 pub mod NewLaw
 pub mod BroughtLaw
 pub mod NamesLaw

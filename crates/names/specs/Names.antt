@@ -19,17 +19,19 @@ use Rattle.names.specs.declared.Names.{Names}
 abbrev pub Inside : List ℕ → Cell → Type 0
 Inside t c = Fits (length t) (c .at) (c .len)
 
-unfoldable pub lastByte : List ℕ → ℕ
-lastByte w = getD w (length w - 1) 0
-
--- Whether a cell's text may be a name, by the name's length and last byte.
-unfoldable pub mayBe : List ℕ → ℕ → ℕ → ℕ → ℕ → Bool
-mayBe t zero len long last = true
-mayBe t (suc off) len long last =
-    elim (ltb (length t) (off + len)) [
-      | true ↦ true
-      | false ↦ elim (eqb len long) [ false ↦ false | true ↦ elim (eqb len 0) [ true ↦ true | false ↦ eqb (getD t (off + len - 1) 0) last ] ]
+-- Whether these two bytes stand before a place and at it.
+unfoldable pub endsSo : List ℕ → ℕ → ℕ → ℕ → Bool
+endsSo t at before last =
+    elim (ltb at (length t)) [
+      | false ↦ false
+      | true ↦ elim (eqb (getD t at 0) last) [ false ↦ false | true ↦ elim (eqb at 0) [ true ↦ false | false ↦ eqb (getD t (at - 1) 0) before ] ]
     ]
+
+-- The first cell that may end so, from 0; their number if none may.
+unfoldable pub firstLike : List ℕ → ℕ → ℕ → List Cell → ℕ
+unfolding endsSo
+firstLike t before last [] = 0
+firstLike t before last (c ∷ cs) = elim (endsSo t (c .at) before last) [ true ↦ 0 | false ↦ suc (firstLike t before last cs) ]
 
 -- The words of a value from a place on.
 abbrev pub wordsFrom : List ℕ → ℕ → List Piece

@@ -4,6 +4,7 @@ use definition::codes::Key;
 use definition::codes::Kind;
 use definition::codes::Tag;
 use nesting::names_state;
+use plain::Keyed;
 use plain::Plain;
 use plain::has;
 use plain::value;
@@ -15,49 +16,18 @@ use written::put_generated;
 ghost use mathlib.Core.Path.{_≡_};
 ghost use mathlib.Core.List.{_∷_, []};
 ghost use Prim.Native.Nat.{_+_, _<_, _≤_};
-ghost use lib.ListN.{length, take};
+ghost use lib.ListN.{length, take, drop};
 ghost use Rattle.definition.specs.Text as T;
 ghost use Rattle.definition.specs.Text.{stateWords};
 ghost use Rattle.definition.specs.Rows.{textAt};
 ghost use Rattle.definition.specs.Limits.{limits01};
 ghost use Rattle.definition.specs.Look.{findName, nameCells};
 ghost use Rattle.plain.specs.Plain.{slotsOf, parsedIn};
-ghost use Rattle.plain.specs.Keyed.{indexOf};
-ghost use Rattle.names.specs.Names.{lastByte, mayBe, wordsFrom, occurs, newIf, firstNonzero, counted, stateNames, namesIn};
-
-// The last byte; 0 where there is none.
-fn last_of(w: &[u8]) -> u8
-    ensures { λ r. ⌜ r ≡ lastByte (now (w .entry)) ⌝ }
-{
-    if w.len() == 0 {
-        return 0;
-    }
-    w[w.len() - 1]
-}
-
-// Whether the text of a cell may be a name of that length and last byte: names often begin alike. A cell that is absent or runs past the text may be any.
-fn may_be(text: &[u8], at: u32, len: u32, long: usize, last: u8) -> bool
-    ensures { λ r. ⌜ r ≡ mayBe (now (text .entry)) at len long last ⌝ }
-{
-    if at == 0 {
-        return true;
-    }
-    let size = index(len);
-    let end = index(at) - 1 + size;
-    if text.len() < end {
-        return true;
-    }
-    if size != long {
-        return false;
-    }
-    if size == 0 {
-        return true;
-    }
-    text[end - 1] == last
-}
+ghost use Rattle.plain.specs.Keyed.{keyedOf};
+ghost use Rattle.names.specs.Names.{endsSo, firstLike, wordsFrom, occurs, newIf, firstNonzero, counted, stateNames, namesIn};
 
 // Whether the text of a cell is w, byte by byte.
-fn same_cell(text: &[u8], at: u32, len: u32, w: &[u8]) -> bool
+pub fn is_at(text: &[u8], at: u32, len: u32, w: &[u8]) -> bool
     ensures { λ r. ⌜ r ≡ T.same (textAt (now (text .entry)) (record { at = at; len = len })) (now (w .entry)) ⌝ }
 {
     if at == 0 {
@@ -66,34 +36,96 @@ fn same_cell(text: &[u8], at: u32, len: u32, w: &[u8]) -> bool
     same_at(text, index(at) - 1, index(len), w)
 }
 
-// Likewise, for a w that is compared once.
-pub fn is_at(text: &[u8], at: u32, len: u32, w: &[u8]) -> bool
-    ensures { λ r. ⌜ r ≡ T.same (textAt (now (text .entry)) (record { at = at; len = len })) (now (w .entry)) ⌝ }
+// Whether a name that begins at `at`, from 1, may end in these two bytes; `tail` is the text from two bytes before its length on, so that it is read by `at` alone.
+fn ends_so(tail: &[u8], at: usize, before: u8, last: u8) -> bool
+    ensures { λ r. ⌜ r ≡ endsSo (now (tail .entry)) at before last ⌝ }
 {
-    if may_be(text, at, len, w.len(), last_of(w)) {
-        return same_cell(text, at, len, w);
+    if tail.len() <= at {
+        return false;
     }
-    false
+    if tail[at] != last {
+        return false;
+    }
+    if at == 0 {
+        return false;
+    }
+    tail[at - 1] == before
 }
 
-// The first of `count` rows whose name is w, from 0; `count` if there is none. What is asked of w for each row is measured once.
-pub fn find_state(states: &[[u32; 24]], count: usize, text: &[u8], w: &[u8]) -> usize
-    requires { ⌜ count ≤ length (now states) ⌝ }
-    ensures { λ r. ⌜ r ≡ findName (now (text .entry)) (nameCells (take count (now (states .entry)))) (now (w .entry)) ⌝ }
+// The first of `count` rows from `from` on whose name may end so; `count` if there is none.
+fn next_like(
+    states: &[[u32; 24]],
+    from: usize,
+    count: usize,
+    tail: &[u8],
+    before: u8,
+    last: u8,
+) -> usize
+    requires { ⌜ (from ≤ count) × (count ≤ length (now states)) ⌝ }
+    ensures { λ r. ⌜ r ≡ from + firstLike (now (tail .entry)) before last (nameCells (drop from (take count (now (states .entry))))) ⌝ }
     ensures { λ r. ⌜ r ≤ count ⌝ }
 {
-    let long = w.len();
-    let last = last_of(w);
-    let mut i = 0;
+    let mut i = from;
     while i < count {
-        let at = states[i][StateColumn::NAME];
-        let len = states[i][StateColumn::NAME_LENGTH];
-        if may_be(text, at, len, long, last) && same_cell(text, at, len, w) {
+        if ends_so(tail, index(states[i][StateColumn::NAME]), before, last) {
             return i;
         }
         i += 1;
     }
     i
+}
+
+// For a w of two bytes and more: names often begin alike and differ in their last bytes, so only rows with those are compared.
+fn find_long(states: &[[u32; 24]], count: usize, text: &[u8], w: &[u8]) -> usize
+    requires { ⌜ count ≤ length (now states) ⌝ }
+    requires { ⌜ (2 ≤ length (now w)) × (length (now w) ≤ length (now text)) ⌝ }
+    ensures { λ r. ⌜ r ≡ findName (now (text .entry)) (nameCells (take count (now (states .entry)))) (now (w .entry)) ⌝ }
+    ensures { λ r. ⌜ r ≤ count ⌝ }
+{
+    let start = w.len() - 2;
+    let before = w[start];
+    let last = w[start + 1];
+    let tail = &text[start..];
+    let mut i = next_like(states, 0, count, tail, before, last);
+    while i < count {
+        let at = states[i][StateColumn::NAME];
+        let len = states[i][StateColumn::NAME_LENGTH];
+        if is_at(text, at, len, w) {
+            return i;
+        }
+        i = next_like(states, i + 1, count, tail, before, last);
+    }
+    i
+}
+
+// For any w.
+fn find_short(states: &[[u32; 24]], count: usize, text: &[u8], w: &[u8]) -> usize
+    requires { ⌜ count ≤ length (now states) ⌝ }
+    ensures { λ r. ⌜ r ≡ findName (now (text .entry)) (nameCells (take count (now (states .entry)))) (now (w .entry)) ⌝ }
+    ensures { λ r. ⌜ r ≤ count ⌝ }
+{
+    let mut i = 0;
+    while i < count {
+        let at = states[i][StateColumn::NAME];
+        let len = states[i][StateColumn::NAME_LENGTH];
+        if is_at(text, at, len, w) {
+            return i;
+        }
+        i += 1;
+    }
+    i
+}
+
+// The first of `count` rows whose name is w, from 0; `count` if there is none.
+pub fn find_state(states: &[[u32; 24]], count: usize, text: &[u8], w: &[u8]) -> usize
+    requires { ⌜ count ≤ length (now states) ⌝ }
+    ensures { λ r. ⌜ r ≡ findName (now (text .entry)) (nameCells (take count (now (states .entry)))) (now (w .entry)) ⌝ }
+    ensures { λ r. ⌜ r ≤ count ⌝ }
+{
+    if (w.len() < 2) | (text.len() < w.len()) {
+        return find_short(states, count, text, w);
+    }
+    find_long(states, count, text, w)
 }
 
 // Of all rows.
@@ -205,15 +237,15 @@ fn look_state(
     text: &[u8],
     src: &[u8],
     p: Plain,
-    ix: [u8; Plain::KEYS],
+    ix: Keyed,
     drawn: u32,
 ) -> Names
-    requires { ⌜ (drawn ≤ limits01 .drawn) × (ix ≡ indexOf (slotsOf p)) ⌝ }
+    requires { ⌜ (drawn ≤ limits01 .drawn) × (ix ≡ keyedOf (slotsOf p)) ⌝ }
     ensures { λ r. ⌜ r ≡ counted (now (text .entry)) (nameCells (now (states .entry))) (stateNames drawn (parsedIn (now (src .entry)) p .values)) ⌝ }
 {
-    let initial = value(src, p, ix, Key::INITIAL);
+    let initial = value(src, ix, Key::INITIAL);
     if has(ix, Key::ID) {
-        let id = value(src, p, ix, Key::ID);
+        let id = value(src, ix, Key::ID);
         return count_with(states, text, id, initial);
     }
     let mut made = [0u8; 24];
@@ -237,10 +269,10 @@ pub fn look_names(
     text: &[u8],
     src: &[u8],
     p: Plain,
-    ix: [u8; Plain::KEYS],
+    ix: Keyed,
     drawn: u32,
 ) -> Names
-    requires { ⌜ (drawn ≤ limits01 .drawn) × (ix ≡ indexOf (slotsOf p)) ⌝ }
+    requires { ⌜ (drawn ≤ limits01 .drawn) × (ix ≡ keyedOf (slotsOf p)) ⌝ }
     ensures { λ r. ⌜ r ≡ namesIn (now (text .entry)) (nameCells (now (states .entry))) drawn (parsedIn (now (src .entry)) p) ⌝ }
 {
     if p.kind == Kind::END {
@@ -250,7 +282,7 @@ pub fn look_names(
         return look_state(states, text, src, p, ix, drawn);
     }
     if p.tag == Tag::TRANSITION {
-        return count_names(states, text, value(src, p, ix, Key::TARGET));
+        return count_names(states, text, value(src, ix, Key::TARGET));
     }
     none()
 }

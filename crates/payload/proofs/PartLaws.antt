@@ -1,5 +1,5 @@
 -- Texts and names laid behind the text in use.
-use Prim.Native.Nat.{ℕ, suc, _+_, _*_, _-_, _≤_, _<_}
+use Prim.Native.Nat.{ℕ, suc, _+_, _-_, _≤_}
 use mathlib.Core.Path.{_≡_, refl, sym, ap, ap₂, _∙_}
 use mathlib.Core.Bool.{Bool, true, false, not, _&&_}
 use mathlib.Core.Option.{Option, none, some}
@@ -7,7 +7,7 @@ use mathlib.Core.List.{List, [], _∷_, _++_, append-assoc, append-nil}
 use native.Mathlib.Omega.{arith}
 use native.Mathlib.Numerals.{add-one}
 use lib.Dec.{eqb, leb}
-use lib.ListN.{length, getD, take, drop, length-append, length-drop, drop-of-length-le}
+use lib.ListN.{length, take, drop, length-append, length-drop, drop-of-length-le}
 use lib.Seq.{drop-drop, take-all}
 use borrow.Author.Tests.{eq-eqb, ne-eqb, le-leb}
 use Rattle.definition.specs.Text.{quoted, generatedName}
@@ -16,14 +16,12 @@ use Rattle.definition.specs.Look.{Load, payload, textLoads, nameLoads, isGenera
 use Rattle.words.proofs.Laws.{by}
 use Rattle.written.specs.Written.{written, writtenLength}
 use Rattle.written.proofs.GeneratedLaw.{made-length, made-fits}
-use Rattle.parts.specs.Parts.{atMost16}
-use Rattle.parts.proofs.MostLaws.{past-most, next-most}
-use Rattle.plain.specs.declared.Slot.{Slot}
 use Rattle.plain.specs.declared.Plain.{Plain}
+use Rattle.plain.specs.declared.Keyed.{Keyed}
 use Rattle.plain.specs.Plain.{Parsed, slotBytes, loadsIn, parsedIn, textIf}
 use Rattle.payload.specs.Laid.{laid}
 use Rattle.payload.proofs.Laws.{laid-behind, laid-nothing, laid-length}
-use Rattle.plain.specs.Keyed.{noSlot, indexOf, isMarked}
+use Rattle.plain.specs.Keyed.{keyedOf, isMarked}
 use Rattle.plain.proofs.ValueLaws.{marked-has}
 use Rattle.payload.specs.Payload.{textBytes, madeIn, allLoads, payloadIn, chargeIn, endsIn}
 
@@ -123,7 +121,7 @@ name-long made n e out room k ek = (made-length (n + 1) out room k ek ∙ sym (a
 
 -- ---- whether a name is made
 
-pub made-is : (src : List ℕ) (p : Plain) (ix : List ℕ) → ix ≡ indexOf (take (p .count) (p .slots)) → (named given : Bool) → named ≡ namesState (p .tag) → given ≡ isMarked ix 1
+pub made-is : (src : List ℕ) (p : Plain) (ix : Keyed) → ix ≡ keyedOf (take (p .count) (p .slots)) → (named given : Bool) → named ≡ namesState (p .tag) → given ≡ isMarked ix 1
     → (not (eqb (p .kind) 3) && named && not given) ≡ madeIn (parsedIn src p)
 unfolding madeIn isGenerated parsedIn
 made-is src p ix e named given en eg =
@@ -188,33 +186,3 @@ module _ (src : List ℕ) (p : Plain) (made : Bool) (n : ℕ) (em : made ≡ mad
             let a : r ≡ used + length A + length B + length C = omega (arith, h .0, m) in
             let c : used + length A + length B + length C ≡ used + length A + length B + length (payload (nameLoads (madeIn (parsedIn src p)) (suc n))) = ap (λ (b : Bool). used + length A + length B + length (payload (nameLoads b (suc n)))) em in
             ((λ j. record { values = e₁ j; text = m j; all = (a ∙ c) j }), h .1 ∙ ap₂ (λ (x : List ℕ) (m : ℕ). laid x m C) both k ∙ laid-behind t used (A ++ B) C f ∙ ap (laid t used) (sym payload-is))
-
--- ---- the lengths of all values
-
-pub record Summing (src : List ℕ) (ss : List Slot) (c sum i : ℕ) : Type 0 where
-  pub all : sum + length (payload (loadsIn src (drop i (take c ss)))) ≡ length (payload (loadsIn src (take c ss)))
-  pub bound : sum ≤ i * 65536
-  pub few : i ≤ 16
-
-module _ (src : List ℕ) (ss : List Slot) (c : ℕ) (long : length ss ≡ 16) where
-  pub summing-start : Summing src ss c 0 0
-  summing-start = record { all = omega arith; bound = omega arith; few = omega arith }
-
-  module _ (sum i : ℕ) (x : Summing src ss c sum i) where
-    pub summing-end : atMost16 c ≤ i → (sum ≡ length (payload (loadsIn src (take c ss)))) × (sum ≤ 1048576)
-    unfolding loadsIn payload
-    summing-end h =
-        let z : length (payload (loadsIn src (drop i (take c ss)))) ≡ 0 = ap (λ (s : List Slot). length (payload (loadsIn src s))) (past-most ss c long i h) in
-        (omega (arith, x .all, z), omega (arith, x .bound, x .few))
-
-    module _ (h : i < atMost16 c) (v : List ℕ) (ev : v ≡ slotBytes src (getD ss i noSlot)) (short : length v < 65536) where
-      pub summing-more : Summing src ss c (sum + length v) (i + 1)
-      unfolding loadsIn payload
-      summing-more =
-          let s : Slot = getD ss i noSlot in
-          let z : payload (loadsIn src (drop i (take c ss))) ≡ slotBytes src s ++ payload (loadsIn src (drop (i + 1) (take c ss))) = ap (λ (y : List Slot). payload (loadsIn src y)) (next-most ss c long i noSlot h) in
-          record {
-            all = omega (arith, x .all, ap length z, length-append (slotBytes src s) (payload (loadsIn src (drop (i + 1) (take c ss)))), ap length ev);
-            bound = omega (arith, x .bound, short);
-            few = omega arith;
-          }

@@ -4,6 +4,7 @@ use definition::codes::Kind;
 use definition::codes::Tag;
 use nesting::names_state;
 use parts::at_most_16;
+use plain::Keyed;
 use plain::Plain;
 use plain::bytes_of;
 use plain::has;
@@ -17,7 +18,7 @@ ghost use Rattle.definition.specs.Look.{payload, textLoads, nameLoads, textChar
 ghost use Rattle.plain.specs.Plain.{slotsOf, loadsIn, parsedIn};
 ghost use Rattle.payload.specs.Laid.{laid};
 ghost use Rattle.definition.specs.Text.{quoted, generatedName};
-ghost use Rattle.plain.specs.Keyed.{indexOf};
+ghost use Rattle.plain.specs.Keyed.{keyedOf};
 ghost use Rattle.payload.specs.Payload.{textBytes, madeIn, payloadIn, chargeIn, endsIn};
 
 pub fn put_bytes(text: &mut [u8], at: usize, v: &[u8])
@@ -107,8 +108,8 @@ fn append_name(text: &mut [u8], pos: usize, made: bool, drawn: u32) -> usize
 }
 
 // Whether the event draws a name.
-pub fn is_made(src: &[u8], p: Plain, ix: [u8; Plain::KEYS]) -> bool
-    requires { ⌜ ix ≡ indexOf (slotsOf p) ⌝ }
+pub fn is_made(src: &[u8], p: Plain, ix: Keyed) -> bool
+    requires { ⌜ ix ≡ keyedOf (slotsOf p) ⌝ }
     ensures { λ r. ⌜ r ≡ madeIn (parsedIn (now (src .entry)) p) ⌝ }
 {
     let named = names_state(p.tag);
@@ -147,24 +148,6 @@ pub fn append_event(
     }
 }
 
-fn values_length(src: &[u8], p: Plain) -> usize
-    ensures { λ r. ⌜ r ≡ length (payload (loadsIn (now (src .entry)) (slotsOf p))) ⌝ }
-    ensures { λ r. ⌜ r ≤ 1048576 ⌝ }
-{
-    let count = p.count;
-    let slots = p.slots;
-    let n = at_most_16(count);
-    let mut sum = 0;
-    let mut i = 0;
-    while i < n {
-        let s = slots[i];
-        let v = bytes_of(src, s);
-        sum += v.len();
-        i += 1;
-    }
-    sum
-}
-
 // "texts (assign: twice and two more)"
 fn text_charge(src: &[u8], p: Plain) -> usize
     ensures { λ r. ⌜ r ≡ textCharge (p .tag) (parsedIn (now (src .entry)) p .text) ⌝ }
@@ -192,12 +175,13 @@ fn name_charge(made: bool, drawn: u32) -> usize
     0
 }
 
-pub fn charge(src: &[u8], p: Plain, made: bool, drawn: u32) -> usize
+// `values`: how long all values are together.
+pub fn charge(src: &[u8], p: Plain, values: usize, made: bool, drawn: u32) -> usize
     requires { ⌜ (drawn ≤ limits01 .drawn) × (made ≡ madeIn (parsedIn (now src) p)) ⌝ }
+    requires { ⌜ (values ≡ length (payload (loadsIn (now src) (slotsOf p)))) × (values ≤ 1048576) ⌝ }
     ensures { λ r. ⌜ r ≡ chargeIn (parsedIn (now (src .entry)) p) drawn ⌝ }
     ensures { λ r. ⌜ r < 2097152 ⌝ }
 {
-    let values = values_length(src, p);
     let text = text_charge(src, p);
     let name = name_charge(made, drawn);
     values + text + name

@@ -1,6 +1,6 @@
--- A key's value among loads, and where its slot tells it.
+-- A key's value among loads, and what is kept of it by key.
 use Prim.Native.Nat.{ℕ, _+_, _<_}
-use mathlib.Core.Path.{_≡_, refl, sym, ap, _∙_}
+use mathlib.Core.Path.{_≡_, refl, sym, ap, ap₂, _∙_}
 use mathlib.Core.Bool.{Bool, true, false}
 use mathlib.Core.List.{List, [], _∷_, _++_}
 use native.Mathlib.Omega.{arith}
@@ -11,8 +11,9 @@ use Rattle.definition.proofs.Base.{true-is-false}
 use Rattle.lines.specs.Parts.{part}
 use Rattle.words.proofs.Laws.{by}
 use Rattle.plain.specs.declared.Slot.{Slot}
+use Rattle.plain.specs.declared.Keyed.{Keyed}
 use Rattle.plain.specs.Plain.{slotBytes, loadsIn}
-use Rattle.plain.specs.Keyed.{indexOf, isMarked, hasSlot, slotFor, valueIn, offsetIn}
+use Rattle.plain.specs.Keyed.{keyedOf, isMarked, keyedBytes, hasSlot, slotFor, valueIn, offsetIn}
 use Rattle.plain.proofs.KeyLaws as K
 
 module _ (k : ℕ) (i : Load) (is : List Load) where
@@ -85,12 +86,17 @@ module _ (src : List ℕ) (k : ℕ) (low : k < 31) where
   slot-has [] = refl
   slot-has (s ∷ ss) = by (eqb (s .code) k) (λ q. rw (q, hasSlot, hasLoad)) (λ q. rw (q, hasSlot, hasLoad) (slot-has ss))
 
-  -- WHETHER A KEY IS THERE, by the index.
-  pub marked-has : (ss : List Slot) (ix : List ℕ) → ix ≡ indexOf ss → (r : Bool) → r ≡ isMarked ix k → r ≡ hasLoad k (loadsIn src ss)
-  marked-has ss ix e r h = h ∙ ap (λ (x : List ℕ). isMarked x k) e ∙ K.marked-is k low ss ∙ slot-has ss
+  -- WHETHER A KEY IS THERE, by what is kept of it.
+  pub marked-has : (ss : List Slot) (ix : Keyed) → ix ≡ keyedOf ss → (r : Bool) → r ≡ isMarked ix k → r ≡ hasLoad k (loadsIn src ss)
+  marked-has ss ix e r h = h ∙ ap (λ (x : Keyed). isMarked x k) e ∙ K.marked-is k low ss ∙ slot-has ss
 
-  pub value-is : (ss : List Slot) (s : Slot) → s ≡ slotFor k ss → (v : List ℕ) → v ≡ slotBytes src s → v ≡ valueIn k (loadsIn src ss)
-  value-is ss s es v ev = ev ∙ ap (slotBytes src) es ∙ slot-value ss
+  -- ITS VALUE
+  pub keyed-value : (ss : List Slot) (ix : Keyed) → ix ≡ keyedOf ss → (v : List ℕ) → v ≡ keyedBytes src ix k → v ≡ valueIn k (loadsIn src ss)
+  unfolding keyedBytes keyedOf
+  keyed-value ss ix e v h =
+      h ∙ ap (λ (x : Keyed). keyedBytes src x k) e
+      ∙ ap₂ (part src) (K.kept-is k low (λ (s : Slot). s .at) refl ss) (K.kept-is k low (λ (s : Slot). s .len) refl ss)
+      ∙ slot-value ss
 
 pub part-short : (src : List ℕ) (at len : ℕ) → len < 65536 → (v : List ℕ) → v ≡ part src at len → length v < 65536
 unfolding part

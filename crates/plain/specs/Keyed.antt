@@ -1,27 +1,34 @@
 -- The values of an event by the number of their key, among its slots and among its loads.
-use Prim.Native.Nat.{ℕ, suc, _+_}
+use Prim.Native.Nat.{ℕ, _+_}
 use mathlib.Core.Bool.{Bool, true, false, not}
 use mathlib.Core.List.{List, [], _∷_}
 use lib.ListN.{length, getD, set, replicate}
 use lib.Dec.{eqb, ltb}
 use Rattle.definition.specs.Look.{Load}
+use Rattle.lines.specs.Parts.{part}
 use Rattle.plain.specs.declared.Slot.{Slot}
+use Rattle.plain.specs.declared.Keyed.{Keyed}
 
 unfoldable pub keyPlace : ℕ → ℕ
 keyPlace k = elim (ltb k 31) [ true ↦ k | false ↦ 31 ]
 
--- The first slot is number i + 1.
-unfoldable pub indexFrom : ℕ → List Slot → List ℕ
+-- What f says of the first slot of each key.
+unfoldable pub byKey : (Slot → ℕ) → List Slot → List ℕ
 unfolding keyPlace
-indexFrom i [] = replicate 32 0
-indexFrom i (s ∷ ss) = set (indexFrom (suc i) ss) (keyPlace (s .code)) (suc i)
+byKey f [] = replicate 32 0
+byKey f (s ∷ ss) = set (byKey f ss) (keyPlace (s .code)) (f s)
 
-unfoldable pub indexOf : List Slot → List ℕ
-unfolding indexFrom
-indexOf ss = indexFrom 0 ss
+unfoldable pub keyedOf : List Slot → Keyed
+unfolding byKey
+keyedOf ss = record { there = byKey (λ (s : Slot). 1) ss; at = byKey (λ (s : Slot). s .at) ss; len = byKey (λ (s : Slot). s .len) ss }
 
-unfoldable pub isMarked : List ℕ → ℕ → Bool
-isMarked ix k = not (eqb (getD ix k 0) 0)
+unfoldable pub isMarked : Keyed → ℕ → Bool
+isMarked ix k = not (eqb (getD (ix .there) k 0) 0)
+
+-- The bytes of a key's first value in a slice; none without it.
+unfoldable pub keyedBytes : List ℕ → Keyed → ℕ → List ℕ
+unfolding part
+keyedBytes src ix k = part src (getD (ix .at) k 0) (getD (ix .len) k 0)
 
 abbrev pub noSlot : Slot
 noSlot = record { code = 0; at = 0; len = 0 }

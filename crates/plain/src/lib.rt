@@ -10,9 +10,10 @@ ghost use mathlib.Core.Path.{_≡_};
 ghost use Prim.Native.Nat.{_+_, _-_, _<_, _≤_};
 ghost use mathlib.Core.List.{_++_};
 ghost use lib.ListN.{length, take, drop};
+ghost use Rattle.definition.specs.Look.{payload};
 ghost use Rattle.event.specs.Described.{read};
 ghost use Rattle.plain.specs.Plain.{isPlain, plainly, spanOf, PlainOf, textPart, slotBytes, slotsOf, loadsIn, parsedIn, parsedRaw, Space};
-ghost use Rattle.plain.specs.Keyed.{keyPlace, indexOf, isMarked, slotFor, valueIn};
+ghost use Rattle.plain.specs.Keyed.{keyPlace, keyedOf, isMarked, keyedBytes};
 
 /// A part: its key's number, 0 where it has none, and where it stands.
 pub struct Slot {
@@ -35,11 +36,24 @@ impl Plain {
     /// The most values that an event in form has.
     pub const SLOTS: usize = 16;
 
-    /// Places of the index by key: one for each number of a key, 0 for other keys, the last for numbers that no key has.
+    /// Places by key: one for each number of a key, 0 for other keys, the last for numbers that no key has.
     pub const KEYS: usize = 32;
 
     /// Room for the parts of any event in form: its name, its values and its text.
     pub const COPY: usize = 20_544;
+}
+
+/// The first value of each key, by the key's number: 1 where it is there, and where it stands; zeros where it is not.
+pub struct Keyed {
+    pub there: [u8; Plain::KEYS],
+    pub at: [u16; Plain::KEYS],
+    pub len: [u16; Plain::KEYS],
+}
+
+/// What one walk over an event's values gives: the values by key, and how long all of them are together.
+pub struct Indexed {
+    pub keyed: Keyed,
+    pub total: usize,
 }
 
 fn is_plain_part(p: Part) -> bool
@@ -206,51 +220,46 @@ fn key_place(code: u32) -> usize
     31
 }
 
-// By a key's number the place of its first value among the slots, from 1; 0 without it.
-pub fn index(p: Plain) -> [u8; Plain::KEYS]
-    ensures { λ r. ⌜ r ≡ indexOf (slotsOf p) ⌝ }
+// From the last value to the first, so that the first one of a key stays.
+pub fn index(src: &[u8], p: Plain) -> Indexed
+    ensures { λ r. ⌜ r .keyed ≡ keyedOf (slotsOf p) ⌝ }
+    ensures { λ r. ⌜ r .total ≡ length (payload (loadsIn (now (src .entry)) (slotsOf p))) ⌝ }
+    ensures { λ r. ⌜ r .total ≤ 1048576 ⌝ }
 {
     let count = p.count;
     let slots = p.slots;
-    let mut at = [0u8; Plain::KEYS];
+    let mut there = [0u8; Plain::KEYS];
+    let mut at = [0u16; Plain::KEYS];
+    let mut len = [0u16; Plain::KEYS];
+    let mut total = 0;
     let mut i = at_most_16(count);
     while 0 < i {
         i -= 1;
         let s = slots[i];
         let k = key_place(s.code);
-        at[k] = (i + 1) as u8;
+        there[k] = 1;
+        at[k] = s.at;
+        len[k] = s.len;
+        let v = bytes_of(src, s);
+        total += v.len();
     }
-    at
+    let keyed = Keyed {
+        there: there,
+        at: at,
+        len: len,
+    };
+    Indexed {
+        keyed: keyed,
+        total: total,
+    }
 }
 
-pub fn has(ix: [u8; Plain::KEYS], k: usize) -> bool
+pub fn has(ix: Keyed, k: usize) -> bool
     requires { ⌜ k < 32 ⌝ }
     ensures { λ r. ⌜ r ≡ isMarked ix k ⌝ }
 {
-    !(ix[k] == 0)
-}
-
-fn small(x: u8) -> usize
-    ensures { λ r. ⌜ r ≡ x ⌝ }
-{
-    x as usize
-}
-
-// The first slot of a key; an empty one without it.
-fn slot_for(p: Plain, ix: [u8; Plain::KEYS], k: usize) -> Slot
-    requires { ⌜ (k < 31) × (ix ≡ indexOf (slotsOf p)) ⌝ }
-    ensures { λ r. ⌜ r ≡ slotFor k (slotsOf p) ⌝ }
-{
-    let slots = p.slots;
-    let i = small(ix[k]);
-    if i == 0 {
-        return Slot {
-            code: 0,
-            at: 0,
-            len: 0,
-        };
-    }
-    slots[i - 1]
+    let there = ix.there;
+    !(there[k] == 0)
 }
 
 /// The bytes of a part.
@@ -264,10 +273,14 @@ pub fn bytes_of(src: &[u8], s: Slot) -> &[u8]
 }
 
 // A key's first value; no bytes without it.
-pub fn value(src: &[u8], p: Plain, ix: [u8; Plain::KEYS], k: usize) -> &[u8]
-    requires { ⌜ (k < 31) × (ix ≡ indexOf (slotsOf p)) ⌝ }
-    ensures { λ r. ⌜ now r ≡ valueIn k (loadsIn (now (src .entry)) (slotsOf p)) ⌝ }
+pub fn value(src: &[u8], ix: Keyed, k: usize) -> &[u8]
+    requires { ⌜ k < 31 ⌝ }
+    ensures { λ r. ⌜ now r ≡ keyedBytes (now (src .entry)) ix k ⌝ }
     ensures { λ r. ⌜ length (now r) < 65536 ⌝ }
 {
-    bytes_of(src, slot_for(p, ix, k))
+    let ats = ix.at;
+    let lens = ix.len;
+    let at = place(ats[k]);
+    let len = place(lens[k]);
+    part_of(src, at, len)
 }

@@ -1,65 +1,60 @@
-use Rattle.heard.specs.Asked.{questionsBy}
-use Rattle.heard.proofs.AskedLaws.{first-no-is}
+use borrow.Author.Tests.{not-true, not-false}
+use Rattle.heard.proofs.AskedLaws.{no-5, no-6, no-start, no-keys, no-text, no-none, no-12}
 use borrow.Author.Needs.{needs}
 use Rattle.heard.proofs.first_no.Statement.{statement}
 use Rattle.heard.proofs.first_no.Tie as tie
 use Rattle.heard.proofs.first_no.Reads as reads
 use Rattle.heard.proofs.first_no.Lts as lts
-use Rattle.heard.proofs.choose.Reads as choose-reads
-use Rattle.nesting.proofs.parent_allowed.Reads as parent-allowed-reads
+use Rattle.heard.proofs.keys_apart.Reads as keys-apart-reads
+use Rattle.heard.proofs.left_out.Reads as left-out-reads
+use Rattle.heard.proofs.start_no.Reads as start-no-reads
+use Rattle.heard.proofs.text_apart.Reads as text-apart-reads
 
--- src/lib.rt:159:9
-parent-allowed-requires : tie.Need-parent-allowed-requires
-parent-allowed-requires c κs = search needs
-
--- src/lib.rt:160:9
-choose-requires : tie.Need-choose-requires
-choose-requires c κs = search needs
-
--- src/lib.rt:161:9
-choose-requires-2 : tie.Need-choose-requires-2
-choose-requires-2 c κs = search needs
-
--- src/lib.rt:162:9
-choose-requires-3 : tie.Need-choose-requires-3
-choose-requires-3 c κs = search needs
-
--- src/lib.rt:163:9
-choose-requires-4 : tie.Need-choose-requires-4
-choose-requires-4 c κs = search needs
-
--- src/lib.rt:164:9
-choose-requires-5 : tie.Need-choose-requires-5
-choose-requires-5 c κs = search needs
-
--- src/lib.rt:165:9
-choose-requires-6 : tie.Need-choose-requires-6
-choose-requires-6 c κs = search needs
-
--- src/lib.rt:166:9
-choose-requires-7 : tie.Need-choose-requires-7
-choose-requires-7 c κs = search needs
-
--- src/lib.rt:167:5
-choose-requires-8 : tie.Need-choose-requires-8
-choose-requires-8 c κs = search needs
-
--- src/lib.rt:154:1
 returns : tie.Need-returns
-unfolding questionsBy
-returns c = first-no-is (c .before .before .before .before .before .before .before .before .before .before .before .before .before .before .args .h) (c .before .before .before .before .before .before .before .before .before .before .before .before .before .before .args .a) (c .before .before .before .before .before .before .before .before .before .before .before .before .before .before .args .innermost) (c .before .before .before .before .before .before .before .before .before .before .before .before .before .before .args .depth) (c .before .before .before .before .before .before .before .before .before .before .before .before .before .before .args .parent) (c .before .before .before .before .before .before .before .before .before .before .before .before .before .before .args .root) _ (c .before .before .before .before .before .before .before .before .before .before .before .before .parent-allowed .ensures) _ _ _ _ _ _ _ _ (c .before .before .before .before .before .before .before .before .before .choose .ensures) (c .before .before .before .before .before .before .before .before .choose2 .ensures) (c .before .before .before .before .before .before .choose3 .ensures) (c .before .before .before .before .before .choose4 .ensures) (c .before .before .before .before .choose5 .ensures) (c .before .before .before .choose6 .ensures) (c .before .choose7 .ensures) (c .choose8 .ensures)
+returns c = no-5 (c .before .before .before .args .src .now) (c .before .before .before .args .p) (c .before .before .before .args .ix) (c .before .before .before .pre .1) (c .before .before .before .args .h) (c .before .before .before .pre .0) (c .before .before .before .args .innermost) (c .before .before .before .args .depth) (c .before .before .before .args .parent) (c .before .before .before .args .root) (not-true _ (c .if1 .taken))
+
+left-out-requires : tie.Need-left-out-requires
+left-out-requires c κs = search needs
+
+returns-2 : tie.Need-returns-2
+returns-2 c = no-6 (c .before .before .before .before .before .args .src .now) (c .before .before .before .before .before .args .p) (c .before .before .before .before .before .args .ix) (c .before .before .before .before .before .pre .1) (c .before .before .before .before .before .args .h) (c .before .before .before .before .before .pre .0) (c .before .before .before .before .before .args .innermost) (c .before .before .before .before .before .args .depth) (c .before .before .before .before .before .args .parent) (c .before .before .before .before .before .args .root) (not-false _ (c .before .before .if1 .left)) _ (c .before .left-out .ensures) (c .if2 .taken)
+
+start-no-requires : tie.Need-start-no-requires
+start-no-requires c κs = search needs
+
+returns-3 : tie.Need-returns-3
+returns-3 c = no-start (c .before .before .before .before .before .before .before .args .src .now) (c .before .before .before .before .before .before .before .args .p) (c .before .before .before .before .before .before .before .args .ix) (c .before .before .before .before .before .before .before .pre .1) (c .before .before .before .before .before .before .before .args .h) (c .before .before .before .before .before .before .before .pre .0) (c .before .before .before .before .before .before .before .args .innermost) (c .before .before .before .before .before .before .before .args .depth) (c .before .before .before .before .before .before .before .args .parent) (c .before .before .before .before .before .before .before .args .root) (not-false _ (c .before .before .before .before .if1 .left)) _ (c .before .before .before .left-out .ensures) (c .before .before .if2 .left) _ (c .before .start-no .ensures) (c .if3 .taken)
+
+keys-apart-requires : tie.Need-keys-apart-requires
+keys-apart-requires c κs = search needs
+
+returns-4 : tie.Need-returns-4
+returns-4 c = no-keys (c .before .before .before .before .before .before .before .before .before .args .src .now) (c .before .before .before .before .before .before .before .before .before .args .p) (c .before .before .before .before .before .before .before .before .before .args .ix) (c .before .before .before .before .before .before .before .before .before .pre .1) (c .before .before .before .before .before .before .before .before .before .args .h) (c .before .before .before .before .before .before .before .before .before .pre .0) (c .before .before .before .before .before .before .before .before .before .args .innermost) (c .before .before .before .before .before .before .before .before .before .args .depth) (c .before .before .before .before .before .before .before .before .before .args .parent) (c .before .before .before .before .before .before .before .before .before .args .root) (not-false _ (c .before .before .before .before .before .before .if1 .left)) _ (c .before .before .before .before .before .left-out .ensures) (c .before .before .before .before .if2 .left) _ (c .before .before .before .start-no .ensures) (c .before .before .if3 .left) _ (c .before .keys-apart .ensures) (not-true _ (c .if4 .taken))
+
+text-apart-requires : tie.Need-text-apart-requires
+text-apart-requires c κs = search needs
+
+returns-5 : tie.Need-returns-5
+returns-5 c = no-text (c .before .before .before .before .before .before .before .before .before .before .before .args .src .now) (c .before .before .before .before .before .before .before .before .before .before .before .args .p) (c .before .before .before .before .before .before .before .before .before .before .before .args .ix) (c .before .before .before .before .before .before .before .before .before .before .before .pre .1) (c .before .before .before .before .before .before .before .before .before .before .before .args .h) (c .before .before .before .before .before .before .before .before .before .before .before .pre .0) (c .before .before .before .before .before .before .before .before .before .before .before .args .innermost) (c .before .before .before .before .before .before .before .before .before .before .before .args .depth) (c .before .before .before .before .before .before .before .before .before .before .before .args .parent) (c .before .before .before .before .before .before .before .before .before .before .before .args .root) (not-false _ (c .before .before .before .before .before .before .before .before .if1 .left)) _ (c .before .before .before .before .before .before .before .left-out .ensures) (c .before .before .before .before .before .before .if2 .left) _ (c .before .before .before .before .before .start-no .ensures) (c .before .before .before .before .if3 .left) _ (c .before .before .before .keys-apart .ensures) (not-false _ (c .before .before .if4 .left)) _ (c .before .text-apart .ensures) (not-true _ (c .if5 .taken))
+
+returns-6 : tie.Need-returns-6
+returns-6 c = no-none (c .before .before .before .before .before .before .before .before .before .before .before .before .before .before .args .src .now) (c .before .before .before .before .before .before .before .before .before .before .before .before .before .before .args .p) (c .before .before .before .before .before .before .before .before .before .before .before .before .before .before .args .ix) (c .before .before .before .before .before .before .before .before .before .before .before .before .before .before .pre .1) (c .before .before .before .before .before .before .before .before .before .before .before .before .before .before .args .h) (c .before .before .before .before .before .before .before .before .before .before .before .before .before .before .pre .0) (c .before .before .before .before .before .before .before .before .before .before .before .before .before .before .args .innermost) (c .before .before .before .before .before .before .before .before .before .before .before .before .before .before .args .depth) (c .before .before .before .before .before .before .before .before .before .before .before .before .before .before .args .parent) (c .before .before .before .before .before .before .before .before .before .before .before .before .before .before .args .root) (not-false _ (c .before .before .before .before .before .before .before .before .before .before .before .if1 .left)) _ (c .before .before .before .before .before .before .before .before .before .before .left-out .ensures) (c .before .before .before .before .before .before .before .before .before .if2 .left) _ (c .before .before .before .before .before .before .before .before .start-no .ensures) (c .before .before .before .before .before .before .before .if3 .left) _ (c .before .before .before .before .before .before .keys-apart .ensures) (not-false _ (c .before .before .before .before .before .if4 .left)) _ (c .before .before .before .before .text-apart .ensures) (not-false _ (c .before .before .before .if5 .left)) (c .if6 .taken)
+
+returns-7 : tie.Need-returns-7
+returns-7 c = no-12 (c .before .before .before .before .before .before .before .before .before .before .before .before .before .before .args .src .now) (c .before .before .before .before .before .before .before .before .before .before .before .before .before .before .args .p) (c .before .before .before .before .before .before .before .before .before .before .before .before .before .before .args .ix) (c .before .before .before .before .before .before .before .before .before .before .before .before .before .before .pre .1) (c .before .before .before .before .before .before .before .before .before .before .before .before .before .before .args .h) (c .before .before .before .before .before .before .before .before .before .before .before .before .before .before .pre .0) (c .before .before .before .before .before .before .before .before .before .before .before .before .before .before .args .innermost) (c .before .before .before .before .before .before .before .before .before .before .before .before .before .before .args .depth) (c .before .before .before .before .before .before .before .before .before .before .before .before .before .before .args .parent) (c .before .before .before .before .before .before .before .before .before .before .before .before .before .before .args .root) (not-false _ (c .before .before .before .before .before .before .before .before .before .before .before .if1 .left)) _ (c .before .before .before .before .before .before .before .before .before .before .left-out .ensures) (c .before .before .before .before .before .before .before .before .before .if2 .left) _ (c .before .before .before .before .before .before .before .before .start-no .ensures) (c .before .before .before .before .before .before .before .if3 .left) _ (c .before .before .before .before .before .before .keys-apart .ensures) (not-false _ (c .before .before .before .before .before .if4 .left)) _ (c .before .before .before .before .text-apart .ensures) (not-false _ (c .before .before .before .if5 .left)) (c .if6 .left)
 
 pub first-no-spec : {M : Type 1} → statement M
 first-no-spec =
     tie.close
     (tie.spec
-    parent-allowed-requires
-    choose-requires
-    choose-requires-2
-    choose-requires-3
-    choose-requires-4
-    choose-requires-5
-    choose-requires-6
-    choose-requires-7
-    choose-requires-8
-    returns)
+    returns
+    left-out-requires
+    returns-2
+    start-no-requires
+    returns-3
+    keys-apart-requires
+    returns-4
+    text-apart-requires
+    returns-5
+    returns-6
+    returns-7)

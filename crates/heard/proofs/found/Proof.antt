@@ -1,5 +1,7 @@
-use Rattle.plain.specs.Plain.{parsedIn}
+use Rattle.plain.proofs.ValueLaws.{keyed-value}
+use Rattle.plain.specs.Plain.{slotsOf, parsedIn}
 use Rattle.heard.proofs.FoundLaws.{found-data, found-other}
+use native.Mathlib.Omega.{arith}
 use borrow.Author.Needs.{needs}
 use Rattle.heard.proofs.found.Statement.{statement}
 use Rattle.heard.proofs.found.Tie as tie
@@ -16,7 +18,7 @@ find-datum-requires c κs = search needs
 
 returns : tie.Need-returns
 unfolding parsedIn
-returns c = found-data (c .before .before .before .before .before .before .args .text .now) (c .before .before .before .before .before .before .args .datums .now) (c .before .before .before .before .before .before .args .state) (parsedIn (c .before .before .before .before .before .before .args .src .now) (c .before .before .before .before .before .before .args .p)) (c .before .before .if1 .taken) _ (c .before .value .ensures .0) _ (c .find-datum .ensures)
+returns c = found-data (c .before .before .before .before .before .before .args .text .now) (c .before .before .before .before .before .before .args .datums .now) (c .before .before .before .before .before .before .args .state) (parsedIn (c .before .before .before .before .before .before .args .src .now) (c .before .before .before .before .before .before .args .p)) (c .before .before .if1 .taken) _ (keyed-value (c .before .before .before .before .before .before .args .src .now) 1 (omega arith) (slotsOf (c .before .before .before .before .before .before .args .p)) _ (c .before .before .before .before .before .before .pre) _ (c .before .value .ensures .0)) _ (c .find-datum .ensures)
 
 returns-2 : tie.Need-returns-2
 unfolding parsedIn

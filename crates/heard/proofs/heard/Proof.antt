@@ -2,7 +2,7 @@ use Rattle.definition.specs.Look.{codeOf}
 use Rattle.definition.specs.Actions.{typeOf}
 use mathlib.Core.Path.{refl, ap, _∙_}
 use native.Mathlib.Omega.{arith}
-use Rattle.heard.proofs.CodeLaws.{there, code-in, heard-is, words-in, heard-bare}
+use Rattle.heard.proofs.CodeLaws.{there, valued, code-in, heard-is, words-in, heard-bare}
 use borrow.Author.Needs.{needs}
 use Rattle.heard.proofs.heard.Statement.{statement}
 use Rattle.heard.proofs.heard.Tie as tie
@@ -18,95 +18,57 @@ use Rattle.heard.proofs.type_code.Reads as type-code-reads
 use Rattle.heard.proofs.type_of.Reads as type-of-reads
 use Rattle.heard.proofs.wildcard_of.Reads as wildcard-of-reads
 use Rattle.plain.proofs.has.Reads as has-reads
-use Rattle.plain.proofs.value.Reads as value-reads
 
--- src/lib.rt:187:9
 bare-requires : tie.Need-bare-requires
 bare-requires c κs = search needs
 
--- src/lib.rt:187:9
 returns : tie.Need-returns
 returns c = heard-bare (c .before .before .before .before .args .src .now) (c .before .before .before .before .args .p) (c .before .if1 .taken) _ _ _ (c .bare .ensures)
 
--- src/lib.rt:189:9
 has-requires : tie.Need-has-requires
 has-requires c κs = search needs
 
--- src/lib.rt:190:9
 has-requires-2 : tie.Need-has-requires-2
 has-requires-2 c κs = search needs
 
--- src/lib.rt:191:9
 has-requires-3 : tie.Need-has-requires-3
 has-requires-3 c κs = search needs
 
--- src/lib.rt:192:9
 has-requires-4 : tie.Need-has-requires-4
 has-requires-4 c κs = search needs
 
--- src/lib.rt:193:35
-value-requires : tie.Need-value-requires
-value-requires c κs = search needs
-
--- src/lib.rt:193:9
 binding-of-requires : tie.Need-binding-of-requires
 binding-of-requires c κs = search needs
 
--- src/lib.rt:194:31
-value-requires-2 : tie.Need-value-requires-2
-value-requires-2 c κs = search needs
-
--- src/lib.rt:194:9
 type-code-requires : tie.Need-type-code-requires
 type-code-requires c κs = search needs
 
--- src/lib.rt:195:9
-value-requires-3 : tie.Need-value-requires-3
-value-requires-3 c κs = search needs
-
--- src/lib.rt:196:9
 wildcard-of-requires : tie.Need-wildcard-of-requires
 wildcard-of-requires c κs = search needs
 
--- src/lib.rt:197:9
 events-of-requires : tie.Need-events-of-requires
 events-of-requires c κs = search needs
 
--- src/lib.rt:198:35
-value-requires-4 : tie.Need-value-requires-4
-value-requires-4 c κs = search needs
-
--- src/lib.rt:198:9
 forward-of-requires : tie.Need-forward-of-requires
 forward-of-requires c κs = search needs
 
--- src/lib.rt:199:31
-value-requires-5 : tie.Need-value-requires-5
-value-requires-5 c κs = search needs
-
--- src/lib.rt:199:9
 names-of-requires : tie.Need-names-of-requires
 names-of-requires c κs = search needs
 
--- src/lib.rt:200:9
 or-else-requires : tie.Need-or-else-requires
 or-else-requires c κs = search needs
 
--- src/lib.rt:201:24
 or-else-requires-2 : tie.Need-or-else-requires-2
 or-else-requires-2 c κs = search needs
 
--- src/lib.rt:201:9
 type-of-requires : tie.Need-type-of-requires
 type-of-requires c κs = search needs
 
--- src/lib.rt:202:9
 or-else-requires-3 : tie.Need-or-else-requires-3
 or-else-requires-3 c κs = search needs
 
--- src/lib.rt:181:1
 returns-2 : tie.Need-returns-2
-returns-2 c = heard-is (c .before .before .before .before .before .before .before .before .before .before .before .before .before .before .before .before .before .before .before .before .before .before .args .src .now) (c .before .before .before .before .before .before .before .before .before .before .before .before .before .before .before .before .before .before .before .before .before .before .args .p) (c .before .before .before .before .before .before .before .before .before .before .before .before .before .before .before .before .before .before .before .before .before .before .args .ix) (c .before .before .before .before .before .before .before .before .before .before .before .before .before .before .before .before .before .before .before .before .before .before .pre) (c .before .before .before .before .before .before .before .before .before .before .before .before .before .before .before .before .before .before .before .before .before .before .args .own .0) (c .before .before .before .before .before .before .before .before .before .before .before .before .before .before .before .before .before .before .before .before .before .before .args .found) _ refl refl refl (there (c .before .before .before .before .before .before .before .before .before .before .before .before .before .before .before .before .before .before .before .before .before .before .args .src .now) (c .before .before .before .before .before .before .before .before .before .before .before .before .before .before .before .before .before .before .before .before .before .before .args .p) (c .before .before .before .before .before .before .before .before .before .before .before .before .before .before .before .before .before .before .before .before .before .before .args .ix) (c .before .before .before .before .before .before .before .before .before .before .before .before .before .before .before .before .before .before .before .before .before .before .pre) 2 (omega arith) _ (c .before .before .before .before .before .before .before .before .before .before .before .before .before .before .before .before .before .before .has .ensures)) (there (c .before .before .before .before .before .before .before .before .before .before .before .before .before .before .before .before .before .before .before .before .before .before .args .src .now) (c .before .before .before .before .before .before .before .before .before .before .before .before .before .before .before .before .before .before .before .before .before .before .args .p) (c .before .before .before .before .before .before .before .before .before .before .before .before .before .before .before .before .before .before .before .before .before .before .args .ix) (c .before .before .before .before .before .before .before .before .before .before .before .before .before .before .before .before .before .before .before .before .before .before .pre) 19 (omega arith) _ (c .before .before .before .before .before .before .before .before .before .before .before .before .before .before .before .before .before .has2 .ensures)) (there (c .before .before .before .before .before .before .before .before .before .before .before .before .before .before .before .before .before .before .before .before .before .before .args .src .now) (c .before .before .before .before .before .before .before .before .before .before .before .before .before .before .before .before .before .before .before .before .before .before .args .p) (c .before .before .before .before .before .before .before .before .before .before .before .before .before .before .before .before .before .before .before .before .before .before .args .ix) (c .before .before .before .before .before .before .before .before .before .before .before .before .before .before .before .before .before .before .before .before .before .before .pre) 5 (omega arith) _ (c .before .before .before .before .before .before .before .before .before .before .before .before .before .before .before .before .has3 .ensures)) (code-in (c .before .before .before .before .before .before .before .before .before .before .before .before .before .before .before .before .before .before .before .before .before .before .args .src .now) (c .before .before .before .before .before .before .before .before .before .before .before .before .before .before .before .before .before .before .before .before .before .before .args .p) (c .before .before .before .before .before .before .before .before .before .before .before .before .before .before .before .before .before .before .before .before .before .before .args .ix) (c .before .before .before .before .before .before .before .before .before .before .before .before .before .before .before .before .before .before .before .before .before .before .pre) 0 (c .before .before .before .before .before .before .before .before .before .before .before .before .before .before .before .before .before .before .before .before .before .before .args .p .tag) 5 (omega arith) _ (c .before .before .before .before .before .before .before .before .before .before .before .before .before .before .before .before .has3 .ensures) _ (c .before .before .before .before .before .before .before .before .before .before .before .before .before .before .value .ensures .0) _ (c .before .before .before .before .before .before .before .before .before .before .before .before .before .binding-of .ensures) _ (c .before .before .before .or-else .ensures)) (c .before .type-of .ensures ∙ ap typeOf (code-in (c .before .before .before .before .before .before .before .before .before .before .before .before .before .before .before .before .before .before .before .before .before .before .args .src .now) (c .before .before .before .before .before .before .before .before .before .before .before .before .before .before .before .before .before .before .before .before .before .before .args .p) (c .before .before .before .before .before .before .before .before .before .before .before .before .before .before .before .before .before .before .before .before .before .before .args .ix) (c .before .before .before .before .before .before .before .before .before .before .before .before .before .before .before .before .before .before .before .before .before .before .pre) 0 (c .before .before .before .before .before .before .before .before .before .before .before .before .before .before .before .before .before .before .before .before .before .before .args .p .tag) 7 (omega arith) _ (c .before .before .before .before .before .before .before .before .before .before .before .before .before .before .before .has4 .ensures) _ (c .before .before .before .before .before .before .before .before .before .before .before .before .value2 .ensures .0) _ (c .before .before .before .before .before .before .before .before .before .before .before .type-code .ensures) _ (c .before .before .or-else2 .ensures))) (code-in (c .before .before .before .before .before .before .before .before .before .before .before .before .before .before .before .before .before .before .before .before .before .before .args .src .now) (c .before .before .before .before .before .before .before .before .before .before .before .before .before .before .before .before .before .before .before .before .before .before .args .p) (c .before .before .before .before .before .before .before .before .before .before .before .before .before .before .before .before .before .before .before .before .before .before .args .ix) (c .before .before .before .before .before .before .before .before .before .before .before .before .before .before .before .before .before .before .before .before .before .before .pre) 1 (c .before .before .before .before .before .before .before .before .before .before .before .before .before .before .before .before .before .before .before .before .before .before .args .p .tag) 7 (omega arith) _ (c .before .before .before .before .before .before .before .before .before .before .before .before .before .before .before .has4 .ensures) _ (c .before .before .before .before .before .before .before .before .before .before .before .before .value2 .ensures .0) _ (c .before .before .before .before .before .before .before .before .before .before .before .type-code .ensures) _ (c .or-else3 .ensures)) (c .before .before .before .before .before .before .before .before .before .wildcard-of .ensures ∙ ap (codeOf (c .before .before .before .before .before .before .before .before .before .before .before .before .before .before .before .before .before .before .before .before .before .before .args .p .tag) 14) (c .before .before .before .before .before .before .before .before .before .before .value3 .ensures .0)) (c .before .before .before .before .before .before .forward-of .ensures ∙ ap (codeOf (c .before .before .before .before .before .before .before .before .before .before .before .before .before .before .before .before .before .before .before .before .before .before .args .p .tag) 13) (c .before .before .before .before .before .before .before .value4 .ensures .0)) (words-in (c .before .before .before .before .before .before .before .before .before .before .before .before .before .before .before .before .before .before .before .before .before .before .args .p .tag) 14 _ _ (c .before .before .before .before .before .before .before .before .before .before .value3 .ensures .0) _ (c .before .before .before .before .before .before .before .before .events-of .ensures)) (words-in (c .before .before .before .before .before .before .before .before .before .before .before .before .before .before .before .before .before .before .before .before .before .before .args .p .tag) 12 _ _ (c .before .before .before .before .before .value5 .ensures .0) _ (c .before .before .before .before .names-of .ensures)) refl
+returns-2 c = heard-is (c .before .before .before .before .before .before .before .before .before .before .before .before .before .before .before .before .before .args .src .now) (c .before .before .before .before .before .before .before .before .before .before .before .before .before .before .before .before .before .args .p) (c .before .before .before .before .before .before .before .before .before .before .before .before .before .before .before .before .before .args .ix) (c .before .before .before .before .before .before .before .before .before .before .before .before .before .before .before .before .before .pre) (c .before .before .before .before .before .before .before .before .before .before .before .before .before .before .before .before .before .args .own .0) (c .before .before .before .before .before .before .before .before .before .before .before .before .before .before .before .before .before .args .found) _ refl refl refl (there (c .before .before .before .before .before .before .before .before .before .before .before .before .before .before .before .before .before .args .src .now) (c .before .before .before .before .before .before .before .before .before .before .before .before .before .before .before .before .before .args .p) (c .before .before .before .before .before .before .before .before .before .before .before .before .before .before .before .before .before .args .ix) (c .before .before .before .before .before .before .before .before .before .before .before .before .before .before .before .before .before .pre) 2 (omega arith) _ (c .before .before .before .before .before .before .before .before .before .before .before .before .before .has .ensures)) (there (c .before .before .before .before .before .before .before .before .before .before .before .before .before .before .before .before .before .args .src .now) (c .before .before .before .before .before .before .before .before .before .before .before .before .before .before .before .before .before .args .p) (c .before .before .before .before .before .before .before .before .before .before .before .before .before .before .before .before .before .args .ix) (c .before .before .before .before .before .before .before .before .before .before .before .before .before .before .before .before .before .pre) 19 (omega arith) _ (c .before .before .before .before .before .before .before .before .before .before .before .before .has2 .ensures)) (there (c .before .before .before .before .before .before .before .before .before .before .before .before .before .before .before .before .before .args .src .now) (c .before .before .before .before .before .before .before .before .before .before .before .before .before .before .before .before .before .args .p) (c .before .before .before .before .before .before .before .before .before .before .before .before .before .before .before .before .before .args .ix) (c .before .before .before .before .before .before .before .before .before .before .before .before .before .before .before .before .before .pre) 5 (omega arith) _ (c .before .before .before .before .before .before .before .before .before .before .before .has3 .ensures)) (code-in (c .before .before .before .before .before .before .before .before .before .before .before .before .before .before .before .before .before .args .src .now) (c .before .before .before .before .before .before .before .before .before .before .before .before .before .before .before .before .before .args .p) (c .before .before .before .before .before .before .before .before .before .before .before .before .before .before .before .before .before .args .ix) (c .before .before .before .before .before .before .before .before .before .before .before .before .before .before .before .before .before .pre) 0 (c .before .before .before .before .before .before .before .before .before .before .before .before .before .before .before .before .before .args .p .tag) 5 (omega arith) _ (c .before .before .before .before .before .before .before .before .before .before .before .has3 .ensures) _ (c .before .before .before .before .before .before .before .before .before .binding-of .ensures) _ (c .before .before .before .or-else .ensures)) (c .before .type-of .ensures ∙ ap typeOf (code-in (c .before .before .before .before .before .before .before .before .before .before .before .before .before .before .before .before .before .args .src .now) (c .before .before .before .before .before .before .before .before .before .before .before .before .before .before .before .before .before .args .p) (c .before .before .before .before .before .before .before .before .before .before .before .before .before .before .before .before .before .args .ix) (c .before .before .before .before .before .before .before .before .before .before .before .before .before .before .before .before .before .pre) 0 (c .before .before .before .before .before .before .before .before .before .before .before .before .before .before .before .before .before .args .p .tag) 7 (omega arith) _ (c .before .before .before .before .before .before .before .before .before .before .has4 .ensures) _ (c .before .before .before .before .before .before .before .before .type-code .ensures) _ (c .before .before .or-else2 .ensures))) (code-in (c .before .before .before .before .before .before .before .before .before .before .before .before .before .before .before .before .before .args .src .now) (c .before .before .before .before .before .before .before .before .before .before .before .before .before .before .before .before .before .args .p) (c .before .before .before .before .before .before .before .before .before .before .before .before .before .before .before .before .before .args .ix) (c .before .before .before .before .before .before .before .before .before .before .before .before .before .before .before .before .before .pre) 1 (c .before .before .before .before .before .before .before .before .before .before .before .before .before .before .before .before .before .args .p .tag) 7 (omega arith) _ (c .before .before .before .before .before .before .before .before .before .before .has4 .ensures) _ (c .before .before .before .before .before .before .before .before .type-code .ensures) _ (c .or-else3 .ensures)) (c .before .before .before .before .before .before .before .wildcard-of .ensures ∙ ap (codeOf (c .before .before .before .before .before .before .before .before .before .before .before .before .before .before .before .before .before .args .p .tag) 14) (valued (c .before .before .before .before .before .before .before .before .before .before .before .before .before .before .before .before .before .args .src .now) (c .before .before .before .before .before .before .before .before .before .before .before .before .before .before .before .before .before .args .p) (c .before .before .before .before .before .before .before .before .before .before .before .before .before .before .before .before .before .args .ix) (c .before .before .before .before .before .before .before .before .before .before .before .before .before .before .before .before .before .pre) 14 (omega arith))) (c .before .before .before .before .before .forward-of .ensures ∙ ap (codeOf (c .before .before .before .before .before .before .before .before .before .before .before .before .before .before .before .before .before .args .p .tag) 13) (valued (c .before .before .before .before .before .before .before .before .before .before .before .before .before .before .before .before .before .args .src .now) (c .before .before .before .before .before .before .before .before .before .before .before .before .before .before .before .before .before .args .p) (c .before .before .before .before .before .before .before .before .before .before .before .before .before .before .before .before .before .args .ix) (c .before .before .before .before .before .before .before .before .before .before .before .before .before .before .before .before .before .pre) 13 (omega arith))) (words-in (c .before .before .before .before .before .before .before .before .before .before .before .before .before .before .before .before .before .args .p .tag) 14 _ _ (valued (c .before .before .before .before .before .before .before .before .before .before .before .before .before .before .before .before .before .args .src .now) (c .before .before .before .before .before .before .before .before .before .before .before .before .before .before .before .before .before .args .p) (c .before .before .before .before .before .before .before .before .before .before .before .before .before .before .before .before .before .args .ix) (c .before .before .before .before .before .before .before .before .before .before .before .before .before .before .before .before .before .pre) 14 (omega arith)) _ (c .before .before .before .before .before .before .events-of .ensures)) (words-in (c .before .before .before .before .before .before .before .before .before .before .before .before .before .before .before .before .before .args .p .tag) 12 _ _ (valued (c .before .before .before .before .before .before .before .before .before .before .before .before .before .before .before .before .before .args .src .now) (c .before .before .before .before .before .before .before .before .before .before .before .before .before .before .before .before .before .args .p) (c .before .before .before .before .before .before .before .before .before .before .before .before .before .before .before .before .before .args .ix) (c .before .before .before .before .before .before .before .before .before .before .before .before .before .before .before .before .before .pre) 12 (omega arith)) _ (c .before .before .before .before .names-of .ensures)) refl
 
 pub heard-spec : {M : Type 1} → statement M
 heard-spec =
@@ -118,16 +80,11 @@ heard-spec =
     has-requires-2
     has-requires-3
     has-requires-4
-    value-requires
     binding-of-requires
-    value-requires-2
     type-code-requires
-    value-requires-3
     wildcard-of-requires
     events-of-requires
-    value-requires-4
     forward-of-requires
-    value-requires-5
     names-of-requires
     or-else-requires
     or-else-requires-2

@@ -1,3 +1,9 @@
+use mathlib.Core.Path.{ap, _∙_}
+use mathlib.Core.List.{List}
+use Prim.Native.Nat.{ℕ}
+use lib.ListN.{length}
+use Rattle.definition.specs.Look.{wordSpans}
+use Rattle.plain.specs.Keyed.{keyedBytes}
 use Rattle.heard.proofs.CodeLaws.{names-here, names-other}
 use borrow.Author.Needs.{needs}
 use Rattle.heard.proofs.names_of.Statement.{statement}
@@ -5,22 +11,23 @@ use Rattle.heard.proofs.names_of.Tie as tie
 use Rattle.heard.proofs.names_of.Reads as reads
 use Rattle.heard.proofs.names_of.Lts as lts
 use Rattle.heard.proofs.state_words.Reads as state-words-reads
+use Rattle.plain.proofs.value.Reads as value-reads
 
--- src/lib.rt:157:13
+value-requires : tie.Need-value-requires
+value-requires c κs = search needs
+
 state-words-requires : tie.Need-state-words-requires
 state-words-requires c κs = search needs
 
--- src/lib.rt:158:16
 cast-result : tie.Need-cast-result
 cast-result c = search needs
 
--- src/lib.rt:158:9
 returns : tie.Need-returns
-returns c = names-here (c .before .before .before .args .v .now) (c .before .before .before .args .tag) (c .before .if1 .taken) _ (c .state-words .ensures .0)
+returns c = names-here (c .before .value .result .now) (c .before .before .before .before .args .tag) (c .before .before .if1 .taken) _ (c .state-words .ensures .0) ∙ ap (λ (v : List ℕ). length (wordSpans (c .before .before .before .before .args .tag) 12 v)) (c .before .value .ensures .0)
 
--- src/lib.rt:152:1
 returns-2 : tie.Need-returns-2
-returns-2 c = names-other (c .before .before .args .v .now) (c .before .before .args .tag) (c .if1 .left)
+returns-2 c = names-other (keyedBytes (c .before .before .args .src .now) (c .before .before .args .ix) 12) (c .before .before .args .tag) (c .if1 .left)
 
 pub names-of-spec : {M : Type 1} → statement M
-names-of-spec = tie.close (tie.spec state-words-requires cast-result returns returns-2)
+names-of-spec =
+    tie.close (tie.spec value-requires state-words-requires cast-result returns returns-2)

@@ -1,12 +1,14 @@
 use Rattle.look.proofs.Laws.{own-small, found-small, looked-is}
 use Rattle.plain.specs.Plain.{parsedIn}
+use Rattle.plan.specs.declared.Heard.{Heard}
+use Rattle.heard.specs.Heard.{heardIn}
+use mathlib.Core.Path.{ap}
 use native.Mathlib.Omega.{arith}
 use borrow.Author.Needs.{needs}
 use Rattle.look.proofs.look.Statement.{statement}
 use Rattle.look.proofs.look.Tie as tie
 use Rattle.look.proofs.look.Reads as reads
 use Rattle.look.proofs.look.Lts as lts
-use Rattle.heard.proofs.ask.Reads as ask-reads
 use Rattle.heard.proofs.first_no.Reads as first-no-reads
 use Rattle.heard.proofs.found.Reads as found-reads
 use Rattle.heard.proofs.heard.Reads as heard-reads
@@ -16,8 +18,8 @@ use Rattle.look.proofs.root_of.Reads as root-of-reads
 use Rattle.names.proofs.look_names.Reads as look-names-reads
 use Rattle.payload.proofs.charge.Reads as charge-reads
 use Rattle.payload.proofs.is_made.Reads as is-made-reads
-use Rattle.plain.proofs.index.Reads as index-reads
 use Rattle.plain.proofs.bytes_of.Reads as bytes-of-reads
+use Rattle.plain.proofs.index.Reads as index-reads
 
 index-requires : tie.Need-index-requires
 index-requires c κs = search needs
@@ -32,16 +34,13 @@ found-requires : tie.Need-found-requires
 found-requires c κs = search needs
 
 cast-t25 : tie.Need-cast-t25
-cast-t25 c = omega (arith, own-small (c .before .before .before .before .before .before .args .text .now) (c .before .before .before .before .before .before .args .states .now) (c .before .before .before .before .before .before .args .position .names) (parsedIn (c .before .before .before .before .before .before .args .src .now) (c .before .before .before .before .before .before .args .p)) (c .before .before .before .before .before .before .pre .0 .0) _ (c .before .before .look-names .ensures))
+cast-t25 c = omega (arith, own-small (c .before .before .before .before .before .before .before .args .text .now) (c .before .before .before .before .before .before .before .args .states .now) (c .before .before .before .before .before .before .before .args .position .names) (parsedIn (c .before .before .before .before .before .before .before .args .src .now) (c .before .before .before .before .before .before .before .args .p)) (c .before .before .before .before .before .before .before .pre .0 .0) _ (c .before .before .look-names .ensures))
 
 cast-heard : tie.Need-cast-heard
-cast-heard c = omega (arith, found-small (c .before .before .before .before .before .before .args .text .now) (c .before .before .before .before .before .before .args .datums .now) _ (parsedIn (c .before .before .before .before .before .before .args .src .now) (c .before .before .before .before .before .before .args .p)) (c .before .before .before .before .before .before .pre .0 .1) _ (c .found .ensures))
+cast-heard c = omega (arith, found-small (c .before .before .before .before .before .before .before .args .text .now) (c .before .before .before .before .before .before .before .args .datums .now) _ (parsedIn (c .before .before .before .before .before .before .before .args .src .now) (c .before .before .before .before .before .before .before .args .p)) (c .before .before .before .before .before .before .before .pre .0 .1) _ (c .found .ensures))
 
 heard-requires : tie.Need-heard-requires
 heard-requires c κs = search needs
-
-ask-requires : tie.Need-ask-requires
-ask-requires c κs = search needs
 
 bytes-of-requires : tie.Need-bytes-of-requires
 bytes-of-requires c κs = search needs
@@ -56,16 +55,17 @@ root-of-requires : tie.Need-root-of-requires
 root-of-requires c κs = search needs
 
 first-no-requires : tie.Need-first-no-requires
-first-no-requires c κs = search needs
+unfolding heardIn parsedIn
+first-no-requires c κs = (ap (λ (x : Heard). x .tag) (c .before .before .before .before .heard .ensures), c .before .before .before .before .before .before .before .before .before .index .ensures .0)
 
 is-made-requires : tie.Need-is-made-requires
 is-made-requires c κs = search needs
 
 charge-requires : tie.Need-charge-requires
-charge-requires c κs = (c .before .before .before .before .before .before .before .before .before .before .before .before .before .before .pre .1, c .is-made .ensures)
+charge-requires c κs = ((c .before .before .before .before .before .before .before .before .before .before .before .before .before .before .pre .1, c .is-made .ensures), (c .before .before .before .before .before .before .before .before .before .before .before .index .ensures .1 .0, c .before .before .before .before .before .before .before .before .before .before .before .index .ensures .1 .1))
 
 returns : tie.Need-returns
-returns c = looked-is (c .before .before .before .before .before .before .before .before .before .before .before .before .before .before .before .args .chart .now) (c .before .before .before .before .before .before .before .before .before .before .before .before .before .before .before .args .states .now) (c .before .before .before .before .before .before .before .before .before .before .before .before .before .before .before .args .datums .now) (c .before .before .before .before .before .before .before .before .before .before .before .before .before .before .before .args .opened .now) (c .before .before .before .before .before .before .before .before .before .before .before .before .before .before .before .args .open-names .now) (c .before .before .before .before .before .before .before .before .before .before .before .before .before .before .before .args .text .now) (c .before .before .before .before .before .before .before .before .before .before .before .before .before .before .before .args .position) (c .before .before .before .before .before .before .before .before .before .before .before .before .before .before .before .args .src .now) (c .before .before .before .before .before .before .before .before .before .before .before .before .before .before .before .args .p) _ (c .before .before .before .before .before .before .before .before .before .before .before .look-names .ensures) _ (c .before .before .before .before .before .before .before .before .before .before .inside .ensures) _ (c .before .before .before .before .before .before .before .before .before .found .ensures) _ (c .before .before .before .before .before .before .before .before .heard .ensures) _ (c .before .before .before .before .before .before .before .ask .ensures) _ (c .before .before .before .before .before .before .bytes-of .ensures .0) _ (c .before .before .before .before .before .is-innermost .ensures) _ (c .before .before .before .before .inside2 .ensures) _ (c .before .before .before .root-of .ensures) _ (c .before .before .first-no .ensures) _ (c .before .is-made .ensures) _ (c .charge .ensures .0)
+returns c = looked-is (c .before .before .before .before .before .before .before .before .before .before .before .before .before .before .before .args .chart .now) (c .before .before .before .before .before .before .before .before .before .before .before .before .before .before .before .args .states .now) (c .before .before .before .before .before .before .before .before .before .before .before .before .before .before .before .args .datums .now) (c .before .before .before .before .before .before .before .before .before .before .before .before .before .before .before .args .opened .now) (c .before .before .before .before .before .before .before .before .before .before .before .before .before .before .before .args .open-names .now) (c .before .before .before .before .before .before .before .before .before .before .before .before .before .before .before .args .text .now) (c .before .before .before .before .before .before .before .before .before .before .before .before .before .before .before .args .position) (c .before .before .before .before .before .before .before .before .before .before .before .before .before .before .before .args .src .now) (c .before .before .before .before .before .before .before .before .before .before .before .before .before .before .before .args .p) _ (c .before .before .before .before .before .before .before .before .before .before .look-names .ensures) _ (c .before .before .before .before .before .before .before .before .before .inside .ensures) _ (c .before .before .before .before .before .before .before .before .found .ensures) _ (c .before .before .before .before .before .before .before .heard .ensures) _ (c .before .before .before .before .before .before .bytes-of .ensures .0) _ (c .before .before .before .before .before .is-innermost .ensures) _ (c .before .before .before .before .inside2 .ensures) _ (c .before .before .before .root-of .ensures) _ (c .before .before .first-no .ensures) _ (c .before .is-made .ensures) _ (c .charge .ensures .0)
 
 pub look-spec : {M : Type 1} → statement M
 look-spec =
@@ -78,7 +78,6 @@ look-spec =
     cast-t25
     cast-heard
     heard-requires
-    ask-requires
     bytes-of-requires
     is-innermost-requires
     inside-requires-2

@@ -6,11 +6,9 @@ use Rattle.plain.proofs.has.Tie as tie
 use Rattle.plain.proofs.has.Reads as reads
 use Rattle.plain.proofs.has.Lts as lts
 
--- src/lib.rt:52:7
 array-read-result : tie.Need-array-read-result
 array-read-result c = search needs
 
--- src/lib.rt:48:1
 returns : tie.Need-returns
 unfolding isMarked
 returns c = refl
