@@ -106,7 +106,7 @@ module _ (p : Position) (v : Parsed) (st ms : Table) (tx : List ℕ) (made : Boo
           )
 
           pub all-stored : (st′ ms′ : Table) (i j : ℕ) → NamesWritten st ms₁ a count next (m .owner) (skipOf (v .kind) (v .tag)) (piecesIn (v .kind) (v .tag) a t) st′ ms′ i j
-              → Stored p v st ms tx m st′ ms′ tx′ (record { states = i; members = j; used = e .all; texts = t })
+              → Stored p v st ms tx m st′ ms′ tx′ t (record { states = i; members = j; used = e .all })
           all-stored st′ ms′ i j W =
               record {
                 text = ex ∙ ap (λ (k : ℕ). laid tx k (payloadIn v n)) eb;

@@ -49,9 +49,9 @@ module _ (p : Position) (v : Parsed) where
     pub own : OwnIn (v .kind) (v .tag) (arena tx) texts
     pub targets : TargetsIn (arena tx) texts
 
-  -- What is there then.
-  pub record Stored (st ms : Table) (tx : List ℕ) (m : MembersPlan) (st′ ms′ : Table) (tx′ : List ℕ) (r : Written) : Type 0 where
+  -- What is there then; t′ is the table of the event's texts.
+  pub record Stored (st ms : Table) (tx : List ℕ) (m : MembersPlan) (st′ ms′ : Table) (tx′ t′ : List ℕ) (r : Written) : Type 0 where
     pub text : tx′ ≡ laid tx (p .used) payload
     pub used : r .used ≡ p .used + length payload
-    pub by-key : r .texts ≡ texts
+    pub by-key : t′ ≡ texts
     pub names : NamesWritten st (setAll ms (p .members) (words tx m)) (arena tx) (p .states) (p .members + length (words tx m)) (m .owner) skip (pieces tx) st′ ms′ (r .states) (r .members)

@@ -9,14 +9,14 @@ use parts::at_most_16;
 use parts::place;
 use payload::Ends;
 use plain::Plain;
+use plain::bytes_of;
 use rows::index;
 use words::trim;
 ghost use mathlib.Core.Path.{_≡_};
 ghost use Prim.Native.Nat.{_+_, _<_, _≤_};
-ghost use lib.ListN.{length, take};
+ghost use lib.ListN.{length, replicate, take};
 ghost use Rattle.definition.specs.Rows.{cellAt, withCell};
 ghost use Rattle.definition.specs.Look.{payload, textLoads};
-ghost use Rattle.lines.specs.Parts.{part};
 ghost use Rattle.plain.specs.Plain.{loadsIn, parsedIn, textIf};
 ghost use Rattle.fill.specs.Fill.{cell, asCell};
 ghost use Rattle.texts.specs.Texts.{textPut, textsIn, closed};
@@ -91,15 +91,6 @@ fn close_texts(t: &mut [u32], at: u32, len: u32, quoted: u32, qlen: u32, content
     set_text(t, CONTENT_AT, content, clen);
 }
 
-fn own_text(src: &[u8], p: Plain) -> &[u8]
-    ensures { λ r. ⌜ now r ≡ part (now (src .entry)) (p .text .at) (p .text .len) ⌝ }
-{
-    let s = p.text;
-    let at = place(s.at);
-    let len = place(s.len);
-    part_of(src, at, len)
-}
-
 // The event's text at `at`, trimmed; an assign has none.
 fn trimmed_cell(kind: u32, tag: u32, text: &[u8], at: usize, none: TextCell) -> TextCell
     requires { ⌜ at + length (payload (textLoads tag (textIf kind (now text)))) ≤ 65535 ⌝ }
@@ -162,21 +153,20 @@ fn put_made(t: &mut [u32], made: bool, at: usize, end: usize)
     }
 }
 
-/// Where the texts of an event lie in the arena, by key: its payload begins at `base`, and its parts end as `e` says.
-pub fn texts_of(src: &[u8], p: Plain, base: usize, made: bool, e: Ends) -> [u32; 64]
-    requires { ⌜ Ended base (parsedIn (now src) p) e ⌝ }
-    ensures { λ r. ⌜ Texts base (parsedIn (now (src .entry)) p) made e r ⌝ }
+/// Where the texts of an event lie in the arena, by key, put into a table of zeros: its payload begins at `base`, and its parts end as `e` says.
+pub fn texts_of(t: &mut [u32], src: &[u8], p: Plain, base: usize, made: bool, e: Ends)
+    requires { ⌜ (now t ≡ replicate 64 0) × Ended base (parsedIn (now src) p) e ⌝ }
+    ensures { λ _. ⌜ Texts base (parsedIn (now (src .entry)) p) made e (now (t .exit)) ⌝ }
 {
-    let mut t = [0u32; 64];
     let kind = p.kind;
     let tag = p.tag;
     let values = e.values;
     let end = e.text;
     let all = e.all;
-    let text = own_text(src, p);
-    value_texts(&mut t, src, p, base);
-    put_own(&mut t, kind, tag, text, values, end);
-    put_made(&mut t, made, end, all);
+    let text = bytes_of(src, p.text);
+    value_texts(t, src, p, base);
+    put_own(t, kind, tag, text, values, end);
+    put_made(t, made, end, all);
     let none = TextCell { at: 0, len: 0 };
     let nothing = TextCell {
         at: (base + 1) as u32,
@@ -185,8 +175,7 @@ pub fn texts_of(src: &[u8], p: Plain, base: usize, made: bool, e: Ends) -> [u32;
     let a = trimmed_cell(kind, tag, text, values, none);
     let q = quoted_cell(kind, tag, text, values, end);
     let c = trimmed_cell(kind, tag, text, values, nothing);
-    close_texts(&mut t, a.at, a.len, q.at, q.len, c.at, c.len);
-    t
+    close_texts(t, a.at, a.len, q.at, q.len, c.at, c.len);
 }
 
 /// A key's text.

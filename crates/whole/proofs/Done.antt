@@ -43,34 +43,34 @@ module _ (p : Position) (a b c d f h i j k o y r : Table) (tx : List ℕ) (v : P
       subst (λ (z : Parsed). Storable p z b k tx made (q .members)) (sym (A .parsed))
       (F.storable p a b c d f h i j k o y r tx e q Z (A .within) (A .form) (A .differ) (A .plan) made (em ∙ ap madeIn (A .parsed)))
 
-  module _ (made : Bool) (em : made ≡ madeIn v) (charge : ℕ) (ec : charge ≡ chargeIn v (p .names)) (st′ ms′ : Table) (tx′ : List ℕ) (w : Written) (W : Stored p v b k tx (q .members) st′ ms′ tx′ w) where
-    W′ : Stored p (parsedOf e) b k tx (q .members) st′ ms′ tx′ w
-    W′ = subst (λ (z : Parsed). Stored p z b k tx (q .members) st′ ms′ tx′ w) (A .parsed) W
+  module _ (made : Bool) (em : made ≡ madeIn v) (charge : ℕ) (ec : charge ≡ chargeIn v (p .names)) (st′ ms′ : Table) (tx′ t′ : List ℕ) (w : Written) (W : Stored p v b k tx (q .members) st′ ms′ tx′ t′ w) where
+    W′ : Stored p (parsedOf e) b k tx (q .members) st′ ms′ tx′ t′ w
+    W′ = subst (λ (z : Parsed). Stored p z b k tx (q .members) st′ ms′ tx′ t′ w) (A .parsed) W
 
     abbrev rows : Position
     rows = rowsOf p (w .members)
 
-    texts-are : w .texts ≡ textsOf (look s e .base) (look s e .fields)
+    texts-are : t′ ≡ textsOf (look s e .base) (look s e .fields)
     unfolding look
     texts-are = W′ .by-key ∙ F.texts-eq p a b c d f h i j k o y r tx e q Z (A .within) (A .form) (A .differ) (A .plan)
 
     pub tables-done : (ts : List Table) (nl : ℕ) (row : Row) → row ≡ nameRow (keptName (v .tag) (v .name)) → nl ≡ length (keptName (v .tag) (v .name))
-        → ts ≡ appliedIn (w .texts) (v .tag) (moveOf (v .kind)) nl row rows q a st′ c d f h i j ms′ o y r
+        → ts ≡ appliedIn t′ (v .tag) (moveOf (v .kind)) nl row rows q a st′ c d f h i j ms′ o y r
         → record { tables = ts; text = tx′ } ≡ lentAfter x (afterwards s e q)
     unfolding lentAfter afterwards parsedOf look
     tables-done ts nl row er en et =
-        let T = F.tables-after p a b c d f h i j k o y r tx e q Z (A .within) (A .form) (A .differ) (A .plan) (A .first) (A .long) st′ ms′ tx′ w W′ in
+        let T = F.tables-after p a b c d f h i j k o y r tx e q Z (A .within) (A .form) (A .differ) (A .plan) (A .first) (A .long) st′ ms′ tx′ t′ w W′ in
         let z : ts ≡ overAll (applied (moveOf (e .kind)) (look s e) q (entered (look s e) (s .numbers)) .tables) (x .tables) =
         et ∙ (λ m. appliedIn (texts-are m) (A .parsed m .tag) (moveOf (A .parsed m .kind)) (en m) (er m) rows q a st′ c d f h i j ms′ o y r)
         ∙ (λ m. appliedIn (textsOf (look s e .base) (look s e .fields)) (parsedOf e .tag) (moveOf (parsedOf e .kind)) (length (keptName (A .parsed m .tag) (A .parsed m .name))) (nameRow (keptName (A .parsed m .tag) (A .parsed m .name))) rows q a st′ c d f h i j ms′ o y r)
         ∙ T in
-        λ m. record { tables = z m; text = F.text-now p a b c d f h i j k o y r tx e q Z (A .within) (A .form) (A .differ) (A .plan) (A .first) (A .long) st′ ms′ tx′ w W′ m }
+        λ m. record { tables = z m; text = F.text-now p a b c d f h i j k o y r tx e q Z (A .within) (A .form) (A .differ) (A .plan) (A .first) (A .long) st′ ms′ tx′ t′ w W′ m }
 
     pub position-done : (u : Position) → u ≡ positionBy p q (v .kind) made charge w → u ≡ positionOf (afterwards s e q)
     unfolding afterwards parsedOf look storeOf
     position-done u eu =
         eu ∙ (λ m. positionBy p q (A .parsed m .kind) made ((ec ∙ ap (λ (z : Parsed). chargeIn z (p .names)) (A .parsed) ∙ charge-law s e) m) w)
-        ∙ F.position-now p a b c d f h i j k o y r tx e q Z (A .within) (A .form) (A .differ) (A .plan) (A .first) (A .long) st′ ms′ tx′ w W′ made (em ∙ ap madeIn (A .parsed))
+        ∙ F.position-now p a b c d f h i j k o y r tx e q Z (A .within) (A .form) (A .differ) (A .plan) (A .first) (A .long) st′ ms′ tx′ t′ w W′ made (em ∙ ap madeIn (A .parsed))
 
     charge-is : charge ≡ look s e .charge
     unfolding parsedOf look storeOf
@@ -81,4 +81,4 @@ module _ (p : Position) (a b c d f h i j k o y r : Table) (tx : List ℕ) (v : P
     in-range =
         subst (λ (z : ℕ). InRange p q (v .kind) made z w) (sym charge-is) (
         subst (λ (z : Parsed). InRange p q (z .kind) made (look s e .charge) w) (sym (A .parsed))
-        (F.in-range p a b c d f h i j k o y r tx e q Z (A .within) (A .form) (A .differ) (A .plan) (A .first) (A .long) st′ ms′ tx′ w W′ made (ap oneIf (em ∙ ap madeIn (A .parsed)) ∙ made-law s e)))
+        (F.in-range p a b c d f h i j k o y r tx e q Z (A .within) (A .form) (A .differ) (A .plan) (A .first) (A .long) st′ ms′ tx′ t′ w W′ made (ap oneIf (em ∙ ap madeIn (A .parsed)) ∙ made-law s e)))

@@ -320,7 +320,7 @@ module _ (p : Position) (a b c d f h i j k o y r : Table) (tx : List ℕ) (e : E
         from-parts : (P : List ℕ → List ℕ → Type 0) → P (arena p (parsedOf e) tx) (texts p (parsedOf e)) → P T t
         from-parts P z = subst (P T) texts-eq (subst (λ (v : List ℕ). P v (texts p (parsedOf e))) arena-eq z)
 
-        module _ (st′ ms′ : Table) (tx′ : List ℕ) (z : Written) (W : Stored p (parsedOf e) b k tx (q .members) st′ ms′ tx′ z) where
+        module _ (st′ ms′ : Table) (tx′ t′ : List ℕ) (z : Written) (W : Stored p (parsedOf e) b k tx (q .members) st′ ms′ tx′ t′ z) where
           abbrev E : Table
           E = tableOf (entered l n) 1
 

@@ -78,13 +78,13 @@ pub fn write(
     ensures { λ r. ⌜ Leaves (record { tables = tablesOf (now (chart .entry)) (now (states .entry)) (now (transitions .entry)) (now (regions .entry)) (now (entries .entry)) (now (invokes .entry)) (now (datums .entry)) (now (parameters .entry)) (now (members .entry)) (now (opened .entry)) (now (names .entry)) (now (pending .entry)); text = now (text .entry) }) p (parsedIn (now (src .entry)) pl) q (record { tables = tablesOf (now (chart .exit)) (now (states .exit)) (now (transitions .exit)) (now (regions .exit)) (now (entries .exit)) (now (invokes .exit)) (now (datums .exit)) (now (parameters .exit)) (now (members .exit)) (now (opened .exit)) (now (names .exit)) (now (pending .exit)); text = now (text .exit) }) r ⌝ }
 {
     let m = q.members;
-    let w = write_texts(states, members, text, p, src, pl, made, m);
+    let mut t = [0u32; 64];
+    let w = write_texts(states, members, text, p, src, pl, made, m, &mut t);
     let name = bytes_of(src, pl.name);
     let row = name_row(pl.tag, name);
     let length = name_length(pl.tag, name);
     let listed = w.members;
     let n = rows_of(p, listed);
-    let t = w.texts;
     let to = moves(pl.kind);
     apply(
         chart,

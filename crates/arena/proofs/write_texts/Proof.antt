@@ -20,7 +20,7 @@ append-event-requires : tie.Need-append-event-requires
 append-event-requires c κs = search needs
 
 texts-of-requires : tie.Need-texts-of-requires
-texts-of-requires c κs = ended (c .before .before .before .before .before .before .before .args .p) (parsedIn (c .before .before .before .before .before .before .before .args .src .now) (c .before .before .before .before .before .before .before .args .pl)) (c .before .before .before .before .before .before .before .args .states .now) (c .before .before .before .before .before .before .before .args .members .now) (c .before .before .before .before .before .before .before .args .text .now) (c .before .before .before .before .before .before .before .args .made) (c .before .before .before .before .before .before .before .args .m) (c .before .before .before .before .before .before .before .pre) _ (c .before .before .before .before .index .ensures .0) _ (c .before .before .append-event .ensures .0) _ (c .before .before .append-event .ensures .1)
+texts-of-requires c κs = (c .before .before .before .before .before .before .before .before .before .pre .0, ended (c .before .before .before .before .before .before .before .before .before .args .p) (parsedIn (c .before .before .before .before .before .before .before .before .before .args .src .now) (c .before .before .before .before .before .before .before .before .before .args .pl)) (c .before .before .before .before .before .before .before .before .before .args .states .now) (c .before .before .before .before .before .before .before .before .before .args .members .now) (c .before .before .before .before .before .before .before .before .before .args .text .now) (c .before .before .before .before .before .before .before .before .before .args .made) (c .before .before .before .before .before .before .before .before .before .args .m) (c .before .before .before .before .before .before .before .before .before .pre .1) _ (c .before .before .before .before .before .index .ensures .0) _ (c .before .before .before .append-event .ensures .0) _ (c .before .before .before .append-event .ensures .1))
 
 leading-requires : tie.Need-leading-requires
 leading-requires c κs = search needs
@@ -31,18 +31,12 @@ index-requires-2 c κs = search needs
 index-requires-3 : tie.Need-index-requires-3
 index-requires-3 c κs = search needs
 
-slice-aggregate-write-words : tie.Need-slice-aggregate-write-words
-slice-aggregate-write-words c = search needs
-
 write-words-requires : tie.Need-write-words-requires
-write-words-requires c κs = (omega (arith, c .before .before .before .index2 .ensures .0, c .before .before .before .before .before .before .before .before .before .before .before .before .before .before .before .pre .members), arena-short (c .before .before .before .before .before .before .before .before .before .before .before .before .before .before .before .args .p) (parsedIn (c .before .before .before .before .before .before .before .before .before .before .before .before .before .before .before .args .src .now) (c .before .before .before .before .before .before .before .before .before .before .before .before .before .before .before .args .pl)) (c .before .before .before .before .before .before .before .before .before .before .before .before .before .before .before .args .states .now) (c .before .before .before .before .before .before .before .before .before .before .before .before .before .before .before .args .members .now) (c .before .before .before .before .before .before .before .before .before .before .before .before .before .before .before .args .text .now) (c .before .before .before .before .before .before .before .before .before .before .before .before .before .before .before .args .made) (c .before .before .before .before .before .before .before .before .before .before .before .before .before .before .before .args .m) (c .before .before .before .before .before .before .before .before .before .before .before .before .before .before .before .pre) _ (c .before .before .before .before .before .before .before .before .before .before .before .before .index .ensures .0) _ (c .before .before .before .before .before .before .before .before .before .before .append-event .ensures .0) _ (c .before .before .before .before .before .before .before .before .before .before .append-event .ensures .1) _ (c .before .before .before .before .leading .ensures))
-
-slice-aggregate-write-names : tie.Need-slice-aggregate-write-names
-slice-aggregate-write-names c = search needs
+write-words-requires c κs = (omega (arith, c .before .before .before .index2 .ensures .0, c .before .before .before .before .before .before .before .before .before .before .before .before .before .before .before .before .before .before .before .pre .1 .members), arena-short (c .before .before .before .before .before .before .before .before .before .before .before .before .before .before .before .before .before .before .before .args .p) (parsedIn (c .before .before .before .before .before .before .before .before .before .before .before .before .before .before .before .before .before .before .before .args .src .now) (c .before .before .before .before .before .before .before .before .before .before .before .before .before .before .before .before .before .before .before .args .pl)) (c .before .before .before .before .before .before .before .before .before .before .before .before .before .before .before .before .before .before .before .args .states .now) (c .before .before .before .before .before .before .before .before .before .before .before .before .before .before .before .before .before .before .before .args .members .now) (c .before .before .before .before .before .before .before .before .before .before .before .before .before .before .before .before .before .before .before .args .text .now) (c .before .before .before .before .before .before .before .before .before .before .before .before .before .before .before .before .before .before .before .args .made) (c .before .before .before .before .before .before .before .before .before .before .before .before .before .before .before .before .before .before .before .args .m) (c .before .before .before .before .before .before .before .before .before .before .before .before .before .before .before .before .before .before .before .pre .1) _ (c .before .before .before .before .before .before .before .before .before .before .before .before .before .before .before .index .ensures .0) _ (c .before .before .before .before .before .before .before .before .before .before .before .before .before .append-event .ensures .0) _ (c .before .before .before .before .before .before .before .before .before .before .before .before .before .append-event .ensures .1) _ (c .before .before .before .before .leading .ensures))
 
 write-names-requires : tie.Need-write-names-requires
 unfolding parsedIn
-write-names-requires c κs = names-asked (c .before .before .before .before .before .before .before .before .before .before .before .before .before .before .before .before .before .before .before .before .args .p) (parsedIn (c .before .before .before .before .before .before .before .before .before .before .before .before .before .before .before .before .before .before .before .before .args .src .now) (c .before .before .before .before .before .before .before .before .before .before .before .before .before .before .before .before .before .before .before .before .args .pl)) (c .before .before .before .before .before .before .before .before .before .before .before .before .before .before .before .before .before .before .before .before .args .states .now) (c .before .before .before .before .before .before .before .before .before .before .before .before .before .before .before .before .before .before .before .before .args .members .now) (c .before .before .before .before .before .before .before .before .before .before .before .before .before .before .before .before .before .before .before .before .args .text .now) (c .before .before .before .before .before .before .before .before .before .before .before .before .before .before .before .before .before .before .before .before .args .made) (c .before .before .before .before .before .before .before .before .before .before .before .before .before .before .before .before .before .before .before .before .args .m) (c .before .before .before .before .before .before .before .before .before .before .before .before .before .before .before .before .before .before .before .before .pre) _ (c .before .before .before .before .before .before .before .before .before .before .before .before .before .before .before .before .before .index .ensures .0) _ (c .before .before .before .before .before .before .before .before .before .before .before .before .before .before .before .append-event .ensures .0) _ (c .before .before .before .before .before .before .before .before .before .before .before .before .before .before .before .append-event .ensures .1) _ (c .before .before .before .before .before .before .before .before .before .leading .ensures) _ (c .before .before .before .before .before .before .before .before .before .before .before .before .texts-of .ensures) _ _ _ (c .before .before .before .before .before .before .before .before .index2 .ensures .0) (c .before .before .before .before .before .before .before .index3 .ensures .0) (c .before .before .before .before .write-words .ensures .0) _ (c .before .before .before .before .write-words .ensures .1)
+write-names-requires c κs = names-asked (c .before .before .before .before .before .before .before .before .before .before .before .before .before .before .before .before .before .before .before .before .before .before .before .before .args .p) (parsedIn (c .before .before .before .before .before .before .before .before .before .before .before .before .before .before .before .before .before .before .before .before .before .before .before .before .args .src .now) (c .before .before .before .before .before .before .before .before .before .before .before .before .before .before .before .before .before .before .before .before .before .before .before .before .args .pl)) (c .before .before .before .before .before .before .before .before .before .before .before .before .before .before .before .before .before .before .before .before .before .before .before .before .args .states .now) (c .before .before .before .before .before .before .before .before .before .before .before .before .before .before .before .before .before .before .before .before .before .before .before .before .args .members .now) (c .before .before .before .before .before .before .before .before .before .before .before .before .before .before .before .before .before .before .before .before .before .before .before .before .args .text .now) (c .before .before .before .before .before .before .before .before .before .before .before .before .before .before .before .before .before .before .before .before .before .before .before .before .args .made) (c .before .before .before .before .before .before .before .before .before .before .before .before .before .before .before .before .before .before .before .before .before .before .before .before .args .m) (c .before .before .before .before .before .before .before .before .before .before .before .before .before .before .before .before .before .before .before .before .before .before .before .before .pre .1) _ (c .before .before .before .before .before .before .before .before .before .before .before .before .before .before .before .before .before .before .before .before .index .ensures .0) _ (c .before .before .before .before .before .before .before .before .before .before .before .before .before .before .before .before .before .before .append-event .ensures .0) _ (c .before .before .before .before .before .before .before .before .before .before .before .before .before .before .before .before .before .before .append-event .ensures .1) _ (c .before .before .before .before .before .before .before .before .before .leading .ensures) _ (c .before .before .before .before .before .before .before .before .before .before .before .before .before .before .texts-of .ensures) _ _ _ (c .before .before .before .before .before .before .before .before .index2 .ensures .0) (c .before .before .before .before .before .before .before .index3 .ensures .0) (c .before .before .before .before .write-words .ensures .0) _ (c .before .before .before .before .write-words .ensures .1)
 
 same-length : tie.Need-same-length
 same-length c = search needs
@@ -53,25 +47,13 @@ same-length-2 c = search needs
 same-length-3 : tie.Need-same-length-3
 same-length-3 c = search needs
 
+same-length-4 : tie.Need-same-length-4
+same-length-4 c = search needs
+
 returns : tie.Need-returns
 unfolding parsedIn
-returns c = all-stored (c .before .before .before .before .before .before .before .before .before .before .before .before .before .before .before .before .before .before .before .before .before .before .before .args .p) (parsedIn (c .before .before .before .before .before .before .before .before .before .before .before .before .before .before .before .before .before .before .before .before .before .before .before .args .src .now) (c .before .before .before .before .before .before .before .before .before .before .before .before .before .before .before .before .before .before .before .before .before .before .before .args .pl)) (c .before .before .before .before .before .before .before .before .before .before .before .before .before .before .before .before .before .before .before .before .before .before .before .args .states .now) (c .before .before .before .before .before .before .before .before .before .before .before .before .before .before .before .before .before .before .before .before .before .before .before .args .members .now) (c .before .before .before .before .before .before .before .before .before .before .before .before .before .before .before .before .before .before .before .before .before .before .before .args .text .now) (c .before .before .before .before .before .before .before .before .before .before .before .before .before .before .before .before .before .before .before .before .before .before .before .args .made) (c .before .before .before .before .before .before .before .before .before .before .before .before .before .before .before .before .before .before .before .before .before .before .before .args .m) (c .before .before .before .before .before .before .before .before .before .before .before .before .before .before .before .before .before .before .before .before .before .before .before .pre) _ (c .before .before .before .before .before .before .before .before .before .before .before .before .before .before .before .before .before .before .before .before .index .ensures .0) _ (c .before .before .before .before .before .before .before .before .before .before .before .before .before .before .before .before .before .before .append-event .ensures .0) _ (c .before .before .before .before .before .before .before .before .before .before .before .before .before .before .before .before .before .before .append-event .ensures .1) _ (c .before .before .before .before .before .before .before .before .before .before .before .before .leading .ensures) _ (c .before .before .before .before .before .before .before .before .before .before .before .before .before .before .before .texts-of .ensures) _ _ _ (c .before .before .before .before .before .before .before .before .before .before .before .index2 .ensures .0) (c .before .before .before .before .before .before .before .before .before .before .index3 .ensures .0) (c .before .before .before .before .before .before .before .write-words .ensures .0) _ (c .before .before .before .before .before .before .before .write-words .ensures .1) _ _ _ _ (c .before .before .write-names .ensures)
+returns c = all-stored (c .before .before .before .before .before .before .before .before .before .before .before .before .before .before .before .before .before .before .before .before .before .before .before .before .before .before .before .args .p) (parsedIn (c .before .before .before .before .before .before .before .before .before .before .before .before .before .before .before .before .before .before .before .before .before .before .before .before .before .before .before .args .src .now) (c .before .before .before .before .before .before .before .before .before .before .before .before .before .before .before .before .before .before .before .before .before .before .before .before .before .before .before .args .pl)) (c .before .before .before .before .before .before .before .before .before .before .before .before .before .before .before .before .before .before .before .before .before .before .before .before .before .before .before .args .states .now) (c .before .before .before .before .before .before .before .before .before .before .before .before .before .before .before .before .before .before .before .before .before .before .before .before .before .before .before .args .members .now) (c .before .before .before .before .before .before .before .before .before .before .before .before .before .before .before .before .before .before .before .before .before .before .before .before .before .before .before .args .text .now) (c .before .before .before .before .before .before .before .before .before .before .before .before .before .before .before .before .before .before .before .before .before .before .before .before .before .before .before .args .made) (c .before .before .before .before .before .before .before .before .before .before .before .before .before .before .before .before .before .before .before .before .before .before .before .before .before .before .before .args .m) (c .before .before .before .before .before .before .before .before .before .before .before .before .before .before .before .before .before .before .before .before .before .before .before .before .before .before .before .pre .1) _ (c .before .before .before .before .before .before .before .before .before .before .before .before .before .before .before .before .before .before .before .before .before .before .before .index .ensures .0) _ (c .before .before .before .before .before .before .before .before .before .before .before .before .before .before .before .before .before .before .before .before .before .append-event .ensures .0) _ (c .before .before .before .before .before .before .before .before .before .before .before .before .before .before .before .before .before .before .before .before .before .append-event .ensures .1) _ (c .before .before .before .before .before .before .before .before .before .before .before .before .leading .ensures) _ (c .before .before .before .before .before .before .before .before .before .before .before .before .before .before .before .before .before .texts-of .ensures) _ _ _ (c .before .before .before .before .before .before .before .before .before .before .before .index2 .ensures .0) (c .before .before .before .before .before .before .before .before .before .before .index3 .ensures .0) (c .before .before .before .before .before .before .before .write-words .ensures .0) _ (c .before .before .before .before .before .before .before .write-words .ensures .1) _ _ _ _ (c .before .before .write-names .ensures)
 
 pub write-texts-spec : {M : Type 1} → statement M
 write-texts-spec =
-    tie.close
-    (tie.spec
-    index-requires
-    append-event-requires
-    texts-of-requires
-    leading-requires
-    index-requires-2
-    index-requires-3
-    slice-aggregate-write-words
-    write-words-requires
-    slice-aggregate-write-names
-    write-names-requires
-    same-length
-    same-length-2
-    same-length-3
-    returns)
+    tie.close (tie.spec index-requires append-event-requires texts-of-requires leading-requires index-requires-2 index-requires-3 write-words-requires write-names-requires same-length same-length-2 same-length-3 same-length-4 returns)
