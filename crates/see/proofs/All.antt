@@ -10,6 +10,7 @@ use Rattle.definition.specs.Look.{Look}
 use Rattle.definition.specs.Reader.{rowsIn, positionOf}
 use Rattle.definition.specs.States.{ownState, isChild, initialOf}
 use Rattle.definition.specs.Actions.{lastEntry, lastInvoke, placeOfNumber}
+use Rattle.plan.specs.declared.Closing.{Closing}
 use Rattle.plan.specs.declared.Seen.{Seen}
 use Rattle.plan.specs.Ids.{stateId, transitionId, regionId}
 use Rattle.plan.specs.Seen.{closes, closedAt, firstChildOr, childMember, joined, ownFirst, seen}
@@ -17,8 +18,8 @@ use Rattle.plan.specs.Heard.{heard}
 use Rattle.plan.specs.Small.{Small}
 use Rattle.plan.specs.Plans.{planBy, planOf}
 use Rattle.see.specs.Scans.{isChildIn}
-use Rattle.see.specs.Masked.{masked, isStart, isBoth, isElse, isPart, isInvoked, isChildish, numberIf, boolIf, walkedIf}
-use Rattle.see.specs.View.{newFirst, defaultFor, familyOf, seenBy}
+use Rattle.see.specs.Masked.{masked, isStart, isBoth, isElse, isPart, isInvoked, isChildish, numberIf, boolIf, walkedIf, isOpen, closesOwn, doesClose, closingIf}
+use Rattle.see.specs.View.{walkAfter, newFirst, defaultFor, familyOf, seenBy}
 use Rattle.see.proofs.Cells.{walk-in}
 use Rattle.see.proofs.Enough.{enough}
 
@@ -56,6 +57,15 @@ unfolding numberIf rowOf
 kind-is true t k = refl
 kind-is false t k = refl
 
+-- An else closes its if at every kind, so its walk begins where it did.
+walk-masked : (k g steps : ℕ) (x : Closing) (t : Table) → walkedIf (isElse g) (walkAfter (closingIf (doesClose k g) x) steps t) ≡ walkedIf (isElse g) (walkAfter x steps t)
+unfolding doesClose walkedIf closingIf
+walk-masked k g steps x t = go (isElse g) (not (isOpen k) && closesOwn g)
+  where
+    go : (a b : Bool) → walkedIf a (walkAfter (closingIf (a || b) x) steps t) ≡ walkedIf a (walkAfter x steps t)
+    go true b = refl
+    go false b = refl
+
 module _ (s : Store) (l : Look) where
   abbrev n : Numbers
   n = s .numbers
@@ -86,8 +96,8 @@ module _ (s : Store) (l : Look) where
         invokes = length (tableOf n (table .invokes));
         datums = length (tableOf n (table .datums));
         parameters = length (tableOf n (table .parameters));
-        closed = closedAt (closes g) (tableOf n (table .openRegions)) k (n .current);
-        walk = ap (walkedIf (isElse g)) (walk-in n (closedAt (closes g) (tableOf n (table .openRegions)) k (n .current))) j;
+        closed = closingIf (doesClose (l .kind) g) (closedAt (closes g) (tableOf n (table .openRegions)) k (n .current));
+        walk = (walk-masked (l .kind) g (length (tableOf n (table .regions))) (closedAt (closes g) (tableOf n (table .openRegions)) k (n .current)) (tableOf n (table .entries)) ∙ ap (walkedIf (isElse g)) (walk-in n (closedAt (closes g) (tableOf n (table .openRegions)) k (n .current)))) j;
         entry = numberIf (isPart g) (lastEntry n (n .current));
         kind = kind-is (isPart g) (tableOf n (table .entries)) (lastEntry n (n .current)) j;
         invoke = numberIf (isInvoked g) (lastInvoke n (currentState n));

@@ -15,7 +15,7 @@ use Rattle.plan.specs.declared.Walked.{Walked}
 use Rattle.plan.specs.Ids.{stateId, transitionId}
 use Rattle.plan.specs.Seen.{closes, walkedAs, walkIn}
 use Rattle.see.specs.Scans.{walkOver}
-use Rattle.see.specs.Masked.{isStart, isBoth}
+use Rattle.see.specs.Masked.{isStart, isBoth, isOpen}
 use Rattle.see.specs.View.{walkAt, walkBy, walkAfter, newFirst, defaultFor, insideOf}
 
 no-number : (c : ℕ) → num [] c ≡ 0
@@ -102,6 +102,11 @@ start-told zero = refl
 start-told (suc zero) = refl
 start-told (suc (suc zero)) = refl
 start-told (suc (suc (suc k))) = le-ltb (suc (suc (suc k))) 3 (omega arith)
+
+pub open-told : (k : ℕ) → eqb k 0 ≡ isOpen k
+unfolding isOpen
+open-told zero = refl
+open-told (suc k) = ne-eqb (suc k) 0 (λ e. omega (arith, e))
 
 pub both-told : (k : ℕ) → eqb k 1 || eqb k 2 ≡ isBoth k
 unfolding isBoth

@@ -5,7 +5,8 @@ use lib.Dec.{eqb}
 use Rattle.definition.specs.Elements.{tag}
 use Rattle.plan.specs.declared.Walked.{Walked}
 use Rattle.plan.specs.declared.Seen.{Seen}
-use Rattle.plan.specs.Ids.{stateId}
+use Rattle.plan.specs.declared.Closing.{Closing}
+use Rattle.plan.specs.Ids.{stateId, regionId}
 
 -- Of the kinds open, empty, whole and end, as the plan goes by them: all but the last begin an element, and two of these end it as well.
 unfoldable pub isStart : ℕ → Bool
@@ -20,8 +21,23 @@ isBoth (suc zero) = true
 isBoth (suc (suc zero)) = true
 isBoth (suc (suc (suc k))) = false
 
+unfoldable pub isOpen : ℕ → Bool
+isOpen zero = true
+isOpen (suc k) = false
+
 unfoldable pub isElse : ℕ → Bool
 isElse g = eqb g (tag .else) || eqb g (tag .elseif)
+
+-- The elements that close their own region where they end.
+unfoldable pub closesOwn : ℕ → Bool
+closesOwn g =
+    eqb g (tag .finalize)
+    || (eqb g (tag .transition) || (eqb g (tag .onentry) || (eqb g (tag .onexit) || (eqb g (tag .if) || eqb g (tag .foreach)))))
+
+-- Whether an event closes a region.
+unfoldable pub doesClose : ℕ → ℕ → Bool
+unfolding isOpen isElse closesOwn
+doesClose k g = isElse g || (not (isOpen k) && closesOwn g)
 
 unfoldable pub isPart : ℕ → Bool
 isPart g = eqb g (tag .param) || eqb g (tag .content)
@@ -44,8 +60,12 @@ unfoldable pub walkedIf : Bool → Walked → Walked
 walkedIf true w = w
 walkedIf false w = record { met = 0; at = 0 }
 
+unfoldable pub closingIf : Bool → Closing → Closing
+closingIf true x = x
+closingIf false x = record { met = 0; current = regionId 0; kept = 0 }
+
 unfoldable pub masked : ℕ → ℕ → Seen → Seen
-unfolding isStart isBoth isElse isPart isInvoked isChildish numberIf boolIf walkedIf
+unfolding isStart isBoth isElse isPart isInvoked isChildish numberIf boolIf walkedIf doesClose closingIf
 masked k g v =
     record {
       state = v .state;
@@ -59,7 +79,7 @@ masked k g v =
       invokes = v .invokes;
       datums = v .datums;
       parameters = v .parameters;
-      closed = v .closed;
+      closed = closingIf (doesClose k g) (v .closed);
       walk = walkedIf (isElse g) (v .walk);
       entry = numberIf (isPart g) (v .entry);
       kind = numberIf (isPart g) (v .kind);

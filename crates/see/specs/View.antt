@@ -13,7 +13,7 @@ use Rattle.plan.specs.Seen.{closes, closedAt, firstChildOr}
 use Rattle.plan.specs.declared.Seen.{Seen}
 use Rattle.opens.specs.declared.Open.{Open}
 use Rattle.see.specs.declared.Family.{Family}
-use Rattle.see.specs.Masked.{isStart, isBoth, isElse, isPart, isInvoked, isChildish, numberIf, boolIf, walkedIf}
+use Rattle.see.specs.Masked.{isStart, isBoth, isElse, isPart, isInvoked, isChildish, numberIf, boolIf, walkedIf, doesClose, closingIf}
 use Rattle.plan.specs.declared.Closing.{Closing}
 use Rattle.plan.specs.declared.Walked.{Walked}
 use Rattle.see.specs.Scans.{walkOver, isChildIn}
@@ -64,12 +64,12 @@ insideOf w = record { state = stateId (num (lastOf [] w) (opened .state)); trans
 
 -- As the code reads it: of the chart, states, transitions, entries, invokes, members, open elements, open regions.
 unfoldable pub seenBy : ℕ → ℕ → ℕ → Position → Table → Table → Table → Table → Table → Table → Table → Table → Seen
-unfolding familyOf walkAfter walkedIf isElse isPart isInvoked rowOf lastOf closes closedAt lastWith placeOfNumber numberIf
+unfolding familyOf walkAfter walkedIf isElse isPart isInvoked rowOf lastOf closes closedAt lastWith placeOfNumber numberIf doesClose closingIf
 seenBy k g o p c s t e i m w r =
     let now : ℕ = num (lastOf [] w) (opened .state) in
     let transition : ℕ = num (lastOf [] w) (opened .transition) in
     let root : ℕ = num (getD c 0 []) (chart .root) in
-    let x : Closing = closedAt (closes g) r (length r) (p .current .0) in
+    let x : Closing = closingIf (doesClose k g) (closedAt (closes g) r (length r) (p .current .0)) in
     let last : ℕ = numberIf (isPart g) (lastWith (entry .region) (p .current .0) 0 0 e) in
     let f : Family = familyOf k g m now root o in
     record {

@@ -31,7 +31,7 @@ ghost use Rattle.definition.specs.Actions.{lastWith, placeOfNumber};
 ghost use Rattle.plan.specs.Ids.{stateId, transitionId};
 ghost use Rattle.plan.specs.Seen.{closes, closedAt, firstChildOr};
 ghost use Rattle.see.specs.Scans.{walkOver, isChildIn};
-ghost use Rattle.see.specs.Masked.{numberIf, boolIf, walkedIf, isElse, isPart, isInvoked};
+ghost use Rattle.see.specs.Masked.{numberIf, boolIf, walkedIf, closingIf, doesClose, isElse, isPart, isInvoked};
 ghost use Rattle.see.specs.View.{walkAfter, defaultFor, familyOf, insideOf, seenBy, Short};
 
 /// The chart's root; 0 where there is no row.
@@ -115,6 +115,18 @@ fn close_region(tag: u32, open_regions: &[[u32; 8]], k: u32, current: RegionId) 
     close_region(tag, open_regions, at, outer)
 }
 
+/// Whether an event closes a region.
+fn does_close(kind: u32, tag: u32) -> bool
+    ensures { λ r. ⌜ r ≡ doesClose kind tag ⌝ }
+{
+    let other = (tag == Tag::ELSE) | (tag == Tag::ELSEIF);
+    let own = (tag == Tag::FINALIZE)
+        | ((tag == Tag::TRANSITION)
+            | ((tag == Tag::ONENTRY)
+                | ((tag == Tag::ONEXIT) | ((tag == Tag::IF) | (tag == Tag::FOREACH)))));
+    other | (!(kind == Kind::OPEN) & own)
+}
+
 /// What the element closes, of all open regions.
 fn closing(tag: u32, open_regions: &[[u32; 8]], current: RegionId) -> Closing
     requires { ⌜ length (now open_regions) < 2 ^ 32 ⌝ }
@@ -122,6 +134,21 @@ fn closing(tag: u32, open_regions: &[[u32; 8]], current: RegionId) -> Closing
 {
     let open = open_regions.len() as u32;
     close_region(closes(tag), open_regions, open, current)
+}
+
+/// For else and elseif, and where an element with a region of its own ends: what it closes.
+fn closing_for(kind: u32, tag: u32, open_regions: &[[u32; 8]], current: RegionId) -> Closing
+    requires { ⌜ length (now open_regions) < 2 ^ 32 ⌝ }
+    ensures { λ r. ⌜ r ≡ closingIf (doesClose kind tag) (closedAt (closes tag) (now (open_regions .entry)) (length (now (open_regions .entry))) (current .0)) ⌝ }
+{
+    if does_close(kind, tag) {
+        return closing(tag, open_regions, current);
+    }
+    Closing {
+        met: 0,
+        current: RegionId(0),
+        kept: 0,
+    }
 }
 
 /// The last entry of a region, from 1; 0 where there is none. From the end: it is near.
@@ -363,7 +390,7 @@ pub fn see(
     let transition = element.transition;
     let root = root_of(chart);
     let current = position.current;
-    let closed = closing(tag, open_regions, current);
+    let closed = closing_for(kind, tag, open_regions, current);
     let entry = entry_for(tag, entries, current);
     let kin = kin_of(kind, tag, members, state, root, own);
     let first = kin.first;

@@ -10,8 +10,8 @@ inside-requires c κs = search needs
 root-of-requires : tie.Need-root-of-requires
 root-of-requires c κs = search needs
 
-closing-requires : tie.Need-closing-requires
-closing-requires c κs = search needs
+closing-for-requires : tie.Need-closing-for-requires
+closing-for-requires c κs = search needs
 
 entry-for-requires : tie.Need-entry-for-requires
 entry-for-requires c κs = search needs
@@ -44,7 +44,7 @@ initial-of-requires-3 : tie.Need-initial-of-requires-3
 initial-of-requires-3 c κs = search needs
 
 returns : tie.Need-returns
-returns c = seen-told (c .before .before .before .before .before .before .before .before .before .before .before .before .before .before .before .before .before .before .before .args .kind) (c .before .before .before .before .before .before .before .before .before .before .before .before .before .before .before .before .before .before .before .args .tag) (c .before .before .before .before .before .before .before .before .before .before .before .before .before .before .before .before .before .before .before .args .own .0) (c .before .before .before .before .before .before .before .before .before .before .before .before .before .before .before .before .before .before .before .args .position) (c .before .before .before .before .before .before .before .before .before .before .before .before .before .before .before .before .before .before .before .args .chart .now) (c .before .before .before .before .before .before .before .before .before .before .before .before .before .before .before .before .before .before .before .args .states .now) (c .before .before .before .before .before .before .before .before .before .before .before .before .before .before .before .before .before .before .before .args .transitions .now) (c .before .before .before .before .before .before .before .before .before .before .before .before .before .before .before .before .before .before .before .args .entries .now) (c .before .before .before .before .before .before .before .before .before .before .before .before .before .before .before .before .before .before .before .args .invokes .now) (c .before .before .before .before .before .before .before .before .before .before .before .before .before .before .before .before .before .before .before .args .members .now) (c .before .before .before .before .before .before .before .before .before .before .before .before .before .before .before .before .before .before .before .args .opened .now) (c .before .before .before .before .before .before .before .before .before .before .before .before .before .before .before .before .before .before .before .args .open-regions .now) (c .before .before .before .before .before .before .before .before .before .before .before .before .before .before .before .before .before .before .inside .ensures) (c .before .before .before .before .before .before .before .before .before .before .before .before .before .before .before .root-of .ensures) refl refl (c .before .before .before .before .before .before .before .before .before .before .before .before .before .closing .ensures) (c .before .before .before .before .before .before .before .before .before .before .before .before .entry-for .ensures) (c .before .before .before .before .before .before .before .before .before .before .before .kin-of .ensures) (c .before .before .before .before .before .before .before .walk-for .ensures) (c .before .before .before .before .before .before .entry-kind .ensures) (c .before .before .before .before .before .invoke-for .ensures) (c .before .before .before .before .place-for .ensures) (c .before .before .before .initial-of .ensures) (c .before .before .state-cell .ensures) (c .before .initial-of2 .ensures) (c .initial-of3 .ensures)
+returns c = seen-told (c .before .before .before .before .before .before .before .before .before .before .before .before .before .before .before .before .before .before .before .args .kind) (c .before .before .before .before .before .before .before .before .before .before .before .before .before .before .before .before .before .before .before .args .tag) (c .before .before .before .before .before .before .before .before .before .before .before .before .before .before .before .before .before .before .before .args .own .0) (c .before .before .before .before .before .before .before .before .before .before .before .before .before .before .before .before .before .before .before .args .position) (c .before .before .before .before .before .before .before .before .before .before .before .before .before .before .before .before .before .before .before .args .chart .now) (c .before .before .before .before .before .before .before .before .before .before .before .before .before .before .before .before .before .before .before .args .states .now) (c .before .before .before .before .before .before .before .before .before .before .before .before .before .before .before .before .before .before .before .args .transitions .now) (c .before .before .before .before .before .before .before .before .before .before .before .before .before .before .before .before .before .before .before .args .entries .now) (c .before .before .before .before .before .before .before .before .before .before .before .before .before .before .before .before .before .before .before .args .invokes .now) (c .before .before .before .before .before .before .before .before .before .before .before .before .before .before .before .before .before .before .before .args .members .now) (c .before .before .before .before .before .before .before .before .before .before .before .before .before .before .before .before .before .before .before .args .opened .now) (c .before .before .before .before .before .before .before .before .before .before .before .before .before .before .before .before .before .before .before .args .open-regions .now) (c .before .before .before .before .before .before .before .before .before .before .before .before .before .before .before .before .before .before .inside .ensures) (c .before .before .before .before .before .before .before .before .before .before .before .before .before .before .before .root-of .ensures) refl refl (c .before .before .before .before .before .before .before .before .before .before .before .before .before .closing-for .ensures) (c .before .before .before .before .before .before .before .before .before .before .before .before .entry-for .ensures) (c .before .before .before .before .before .before .before .before .before .before .before .kin-of .ensures) (c .before .before .before .before .before .before .before .walk-for .ensures) (c .before .before .before .before .before .before .entry-kind .ensures) (c .before .before .before .before .before .invoke-for .ensures) (c .before .before .before .before .place-for .ensures) (c .before .before .before .initial-of .ensures) (c .before .before .state-cell .ensures) (c .before .initial-of2 .ensures) (c .initial-of3 .ensures)
 
 pub see-spec : {M : Type 1} → statement M
 see-spec =
@@ -52,7 +52,7 @@ see-spec =
     (tie.spec
     inside-requires
     root-of-requires
-    closing-requires
+    closing-for-requires
     entry-for-requires
     kin-of-requires
     walk-for-requires
