@@ -53,6 +53,8 @@ ghost use Rattle.plan.specs.Plans.{startP, bothP, endP, planBy, restP};
 ghost use Rattle.plan.specs.Decided.{oneUnless, unless};
 ghost use Rattle.decision.specs.Told.{told};
 ghost use Rattle.plan.specs.Small.{Small, Counted, Brought, wordsOn};
+ghost use mathlib.Core.Bool.{true};
+ghost use Rattle.decide.specs.Kinds.{doesEnd, startsOnly};
 ghost use Rattle.decide.specs.Within.{membersMore, rowsWithin, drawnWithin, within};
 
 /// An end that does nothing.
@@ -100,9 +102,22 @@ fn start(tag: u32, v: Seen, q: Heard) -> Decision
     }
 }
 
-/// Start and end as one: eight elements do something at their end.
+/// The elements that do something at their end.
+fn ends(tag: u32) -> bool
+    ensures { λ r. ⌜ r ≡ doesEnd tag ⌝ }
+{
+    (tag == Tag::SCXML)
+        | ((tag == Tag::STATE)
+            | ((tag == Tag::FINALIZE)
+                | ((tag == Tag::TRANSITION)
+                    | ((tag == Tag::ONENTRY)
+                        | ((tag == Tag::ONEXIT) | ((tag == Tag::IF) | (tag == Tag::FOREACH)))))))
+}
+
+/// Start and end as one, of an element that does something at its end.
 fn both(tag: u32, v: Seen, q: Heard) -> Decision
     requires { ⌜ Small v q ⌝ }
+    requires { ⌜ doesEnd tag ≡ true ⌝ }
     ensures { λ r. ⌜ told r ≡ bothP tag v q ⌝ }
 {
     match tag {
@@ -113,8 +128,7 @@ fn both(tag: u32, v: Seen, q: Heard) -> Decision
         Tag::ONENTRY => both_listed(ListKind::ONENTRY, v),
         Tag::ONEXIT => both_listed(ListKind::ONEXIT, v),
         Tag::IF => both_block(EntryKind::IF, v),
-        Tag::FOREACH => both_block(EntryKind::FOREACH, v),
-        _ => start(tag, v, q),
+        _ => both_block(EntryKind::FOREACH, v),
     }
 }
 
@@ -136,17 +150,29 @@ fn end(tag: u32, v: Seen) -> Decision
     }
 }
 
+/// Whether an event is a start and no more: its element stays open, or does nothing at its end.
+fn starts_only(kind: u32, tag: u32) -> bool
+    ensures { λ r. ⌜ r ≡ startsOnly kind tag ⌝ }
+{
+    if kind == Kind::OPEN {
+        return true;
+    }
+    (kind < Kind::END) & !ends(tag)
+}
+
 /// By the kind: open, empty or whole, end.
 pub fn decide(kind: u32, v: Seen, q: Heard) -> Decision
     requires { ⌜ Small v q ⌝ }
     ensures { λ r. ⌜ told r ≡ planBy kind v q ⌝ }
 {
-    match kind {
-        Kind::OPEN => start(q.tag, v, q),
-        Kind::EMPTY => both(q.tag, v, q),
-        Kind::WHOLE => both(q.tag, v, q),
-        _ => end(q.tag, v),
+    let tag = q.tag;
+    if starts_only(kind, tag) {
+        return start(tag, v, q);
     }
+    if kind < Kind::END {
+        return both(tag, v, q);
+    }
+    end(tag, v)
 }
 
 fn one_unless(k: u32) -> u32

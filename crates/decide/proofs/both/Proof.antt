@@ -1,6 +1,5 @@
-use Rattle.decide.proofs.Arms.{both-at, both-rest}
+use Rattle.decide.proofs.Arms.{both-at, last-ending}
 use Rattle.plan.specs.Plans.{bothP, bothsP, plainP}
-use mathlib.Core.Path.{_∙_}
 use borrow.Author.Needs.{needs}
 use Rattle.decide.proofs.both.Statement.{statement}
 use Rattle.decide.proofs.both.Tie as tie
@@ -28,9 +27,6 @@ both-block-requires c κs = search needs
 
 both-block-requires-2 : tie.Need-both-block-requires-2
 both-block-requires-2 c κs = search needs
-
-start-requires : tie.Need-start-requires
-start-requires c κs = search needs
 
 returns : tie.Need-returns
 unfolding bothP bothsP plainP
@@ -62,11 +58,7 @@ returns-7 c = both-at (c .before .before .args .tag) 24 (c .before .before .args
 
 returns-8 : tie.Need-returns-8
 unfolding bothP bothsP plainP
-returns-8 c = both-at (c .before .before .args .tag) 25 (c .before .before .args .v) (c .before .before .args .q) (c .before .match .keys8) (c .both-block2 .ensures)
-
-returns-9 : tie.Need-returns-9
-unfolding bothP bothsP plainP
-returns-9 c = c .start .ensures ∙ both-rest (c .before .before .args .tag) (c .before .before .args .v) (c .before .before .args .q) (c .before .match .rest)
+returns-8 c = both-at (c .before .before .args .tag) 25 (c .before .before .args .v) (c .before .before .args .q) (last-ending (c .before .before .args .tag) (c .before .before .pre .1) (c .before .match .rest)) (c .both-block2 .ensures)
 
 pub both-spec : {M : Type 1} → statement M
 both-spec =
@@ -80,7 +72,6 @@ both-spec =
     both-listed-requires-2
     both-block-requires
     both-block-requires-2
-    start-requires
     returns
     returns-2
     returns-3
@@ -88,5 +79,4 @@ both-spec =
     returns-5
     returns-6
     returns-7
-    returns-8
-    returns-9)
+    returns-8)
