@@ -1,8 +1,8 @@
 /*
- * The chart reader through its C header. In the repository, after `rt staticlib chartreader`:
+ * The chart reader through its C header. In the repository, after `rt staticlib reader`:
  *
  *     cc -std=c99 -Wall -Wextra -Wpedantic -Werror -Wconversion -Iinclude tests/c/chartreader.c \
- *         target/staticlib/libchartreader.a -o target/chartreader_c && target/chartreader_c
+ *         target/staticlib/libreader.a -o target/chartreader_c && target/chartreader_c
  *
  * It ends with 1 and one line at the first thing that is not as it must be.
  */

@@ -1,7 +1,6 @@
-// One event on slices that are long enough and in order: the questions 3 to 15, and what an accepted event leaves.
+// One event in form on slices that are long enough and in order: the questions 5 to 15, and what an accepted event leaves.
 use definition::Position;
 use event::Described;
-use event::describe;
 use plain::Plain;
 use plain::Slot;
 use plain::is_plain;
@@ -214,8 +213,8 @@ fn feed_copy(
     )
 }
 
-// An event in form, described: most have no escape and are read where they stand.
-fn feed_described(
+/// The questions 5 to 15 of an event that is taken apart; 1 to 4 are yes. Most events have no escape and are read where they stand.
+pub fn feed(
     chart: &mut [[u32; 24]],
     states: &mut [[u32; 24]],
     transitions: &mut [[u32; 8]],
@@ -233,9 +232,10 @@ fn feed_described(
     raw: &[u8],
     d: Described,
 ) -> Answer
+    requires { ⌜ firstTwo (lent (tables (now chart) (now states) (now transitions) (now regions) (now entries) (now invokes) (now datums) (now parameters) (now members) (now opened) (now names) (now pending)) (now text)) p ≡ 0 ⌝ }
     requires { ⌜ d ≡ described (now raw) ⌝ }
-    requires { ⌜ InForm (lent (tables (now chart) (now states) (now transitions) (now regions) (now entries) (now invokes) (now datums) (now parameters) (now members) (now opened) (now names) (now pending)) (now text)) p (parsedRaw (now raw) d) ⌝ }
-    ensures { λ r. ⌜ Answers (lent (tables (now (chart .entry)) (now (states .entry)) (now (transitions .entry)) (now (regions .entry)) (now (entries .entry)) (now (invokes .entry)) (now (datums .entry)) (now (parameters .entry)) (now (members .entry)) (now (opened .entry)) (now (names .entry)) (now (pending .entry))) (now (text .entry))) p (parsedRaw (now (raw .entry)) d) (given (r .number) (r .position) (lent (tables (now (chart .exit)) (now (states .exit)) (now (transitions .exit)) (now (regions .exit)) (now (entries .exit)) (now (invokes .exit)) (now (datums .exit)) (now (parameters .exit)) (now (members .exit)) (now (opened .exit)) (now (names .exit)) (now (pending .exit))) (now (text .exit)))) ⌝ }
+    requires { ⌜ d .number ≡ 0 ⌝ }
+    ensures { λ r. ⌜ given (r .number) (r .position) (lent (tables (now (chart .exit)) (now (states .exit)) (now (transitions .exit)) (now (regions .exit)) (now (entries .exit)) (now (invokes .exit)) (now (datums .exit)) (now (parameters .exit)) (now (members .exit)) (now (opened .exit)) (now (names .exit)) (now (pending .exit))) (now (text .exit))) ≡ R.answerTo limits01 (lent (tables (now (chart .entry)) (now (states .entry)) (now (transitions .entry)) (now (regions .entry)) (now (entries .entry)) (now (invokes .entry)) (now (datums .entry)) (now (parameters .entry)) (now (members .entry)) (now (opened .entry)) (now (names .entry)) (now (pending .entry))) (now (text .entry))) p (R.event (now (raw .entry))) ⌝ }
 {
     if is_plain(d) {
         return feed_parsed(
@@ -258,52 +258,6 @@ fn feed_described(
         );
     }
     feed_copy(
-        chart,
-        states,
-        transitions,
-        regions,
-        entries,
-        invokes,
-        datums,
-        parameters,
-        members,
-        opened,
-        names,
-        pending,
-        text,
-        p,
-        raw,
-        d,
-    )
-}
-
-/// The questions 3 to 15 of an event's bytes; 1 and 2 are yes.
-pub fn feed(
-    chart: &mut [[u32; 24]],
-    states: &mut [[u32; 24]],
-    transitions: &mut [[u32; 8]],
-    regions: &mut [[u32; 8]],
-    entries: &mut [[u32; 48]],
-    invokes: &mut [[u32; 24]],
-    datums: &mut [[u32; 8]],
-    parameters: &mut [[u32; 8]],
-    members: &mut [[u32; 8]],
-    opened: &mut [[u32; 8]],
-    names: &mut [[u8; 64]],
-    pending: &mut [[u32; 8]],
-    text: &mut [u8],
-    p: Position,
-    raw: &[u8],
-) -> Answer
-    requires { ⌜ firstTwo (lent (tables (now chart) (now states) (now transitions) (now regions) (now entries) (now invokes) (now datums) (now parameters) (now members) (now opened) (now names) (now pending)) (now text)) p ≡ 0 ⌝ }
-    ensures { λ r. ⌜ given (r .number) (r .position) (lent (tables (now (chart .exit)) (now (states .exit)) (now (transitions .exit)) (now (regions .exit)) (now (entries .exit)) (now (invokes .exit)) (now (datums .exit)) (now (parameters .exit)) (now (members .exit)) (now (opened .exit)) (now (names .exit)) (now (pending .exit))) (now (text .exit))) ≡ R.answerTo limits01 (lent (tables (now (chart .entry)) (now (states .entry)) (now (transitions .entry)) (now (regions .entry)) (now (entries .entry)) (now (invokes .entry)) (now (datums .entry)) (now (parameters .entry)) (now (members .entry)) (now (opened .entry)) (now (names .entry)) (now (pending .entry))) (now (text .entry))) p (R.event (now (raw .entry))) ⌝ }
-{
-    let d = describe(raw);
-    let no = d.number;
-    if no != 0 {
-        return refuse(no, p);
-    }
-    feed_described(
         chart,
         states,
         transitions,

@@ -1,9 +1,11 @@
-// The reader: an event, and a stream of events.
+// The reader: an event, a stream of events, a row. Its functions can be called from C and Rust too, through a static library: a slice crosses as a pointer and
+// a count, a position by value.
 use definition::Position;
 use feed::Answer;
-use feed::feed;
 use feed::refuse;
+use lines::next_event;
 use questions::asked;
+use reading::read_row_bytes;
 use streams::Streamed;
 use streams::end;
 use streams::feed_all;
@@ -11,11 +13,47 @@ ghost use mathlib.Core.Path.{_≡_};
 ghost use Rattle.definition.specs.Limits.{limits01};
 ghost use Rattle.definition.specs.Reader as R;
 ghost use Rattle.questions.specs.Lent.{tables, lent};
+ghost use Rattle.reading.specs.Bytes.{outOf, rowOut};
 ghost use Rattle.feed.specs.Fed.{given};
 ghost use Rattle.streams.specs.Stream.{ended};
+ghost use Rattle.reader.specs.First.{firstOf, oneEvent};
 
-/// One event: the questions 1 to 15. Nothing changes with a refusal.
-pub fn event(
+// The first no of two numbers.
+fn first_of(one: u32, other: u32) -> u32
+    ensures { λ r. ⌜ r ≡ firstOf one other ⌝ }
+{
+    if one != 0 {
+        return one;
+    }
+    other
+}
+
+// 3 for bytes that hold no event or more than one: they are out of form.
+fn one_event(raw: &[u8]) -> u32
+    ensures { λ r. ⌜ r ≡ oneEvent (now (raw .entry)) ⌝ }
+{
+    if raw.len() == 0 {
+        return 3;
+    }
+    if next_event(raw, 0) < raw.len() {
+        return 3;
+    }
+    0
+}
+
+fn answer_of(s: Streamed) -> Answer
+    ensures { λ r. ⌜ r ≡ record { number = s .number; position = s .position } ⌝ }
+{
+    let position = s.position;
+    Answer {
+        number: s.number,
+        position: position,
+    }
+}
+
+/// One event, as a stream of one: the questions 1 to 15. Nothing changes with a refusal.
+#[no_mangle]
+pub extern "C" fn chart_event(
     chart: &mut [[u32; 24]],
     states: &mut [[u32; 24]],
     transitions: &mut [[u32; 8]],
@@ -50,10 +88,11 @@ pub fn event(
         text,
         p,
     );
-    if first != 0 {
-        return refuse(first, p);
+    let no = first_of(first, one_event(raw));
+    if no != 0 {
+        return refuse(no, p);
     }
-    feed(
+    let s = feed_all(
         chart,
         states,
         transitions,
@@ -69,11 +108,13 @@ pub fn event(
         text,
         p,
         raw,
-    )
+    );
+    answer_of(s)
 }
 
 /// The events of a stream one after another, up to the first refusal. A stream without an event is asked nothing.
-pub fn stream(
+#[no_mangle]
+pub extern "C" fn chart_stream(
     chart: &mut [[u32; 24]],
     states: &mut [[u32; 24]],
     transitions: &mut [[u32; 8]],
@@ -95,7 +136,7 @@ pub fn stream(
     if bytes.len() == 0 {
         return end(0, 0, p);
     }
-    let no = asked(
+    let first = asked(
         chart,
         states,
         transitions,
@@ -111,8 +152,8 @@ pub fn stream(
         text,
         p,
     );
-    if no != 0 {
-        return end(no, 1, p);
+    if first != 0 {
+        return end(first, 1, p);
     }
     feed_all(
         chart,
@@ -130,5 +171,49 @@ pub fn stream(
         text,
         p,
         bytes,
+    )
+}
+
+/// A row by kind and number, as bytes.
+#[no_mangle]
+pub extern "C" fn chart_read_row(
+    chart: &[[u32; 24]],
+    states: &[[u32; 24]],
+    transitions: &[[u32; 8]],
+    regions: &[[u32; 8]],
+    entries: &[[u32; 48]],
+    invokes: &[[u32; 24]],
+    datums: &[[u32; 8]],
+    parameters: &[[u32; 8]],
+    members: &[[u32; 8]],
+    opened: &[[u32; 8]],
+    open_names: &[[u8; 64]],
+    open_regions: &[[u32; 8]],
+    text: &[u8],
+    p: Position,
+    kind: u32,
+    number: u32,
+    out: &mut [u8],
+) -> u32
+    ensures { λ r. ⌜ outOf r (now (out .exit)) ≡ rowOut (R.call limits01 (lent (tables (now (chart .entry)) (now (states .entry)) (now (transitions .entry)) (now (regions .entry)) (now (entries .entry)) (now (invokes .entry)) (now (datums .entry)) (now (parameters .entry)) (now (members .entry)) (now (opened .entry)) (now («open_names» .entry)) (now («open_regions» .entry))) (now (text .entry))) p (R.reading kind number)) (now (out .entry)) ⌝ }
+{
+    read_row_bytes(
+        chart,
+        states,
+        transitions,
+        regions,
+        entries,
+        invokes,
+        datums,
+        parameters,
+        members,
+        opened,
+        open_names,
+        open_regions,
+        text,
+        p,
+        kind,
+        number,
+        out,
     )
 }

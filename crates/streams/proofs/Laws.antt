@@ -6,15 +6,19 @@ use mathlib.Core.List.{List, [], _∷_}
 use native.Mathlib.Omega.{arith}
 use native.Mathlib.Numerals.{add-one}
 use lib.ListN.{length, take, drop, length-drop}
-use lib.Seq.{drop-drop}
+use lib.Seq.{drop-drop, take-all}
 use Rattle.definition.specs.declared.Position.{Position}
 use Rattle.definition.specs.Limits.{limits01}
 use Rattle.definition.specs.Event.{eventsOf, cut, flush}
-use Rattle.definition.specs.Reader.{Lent, Answer, event, longEnough, inOrder, call, answerTo, answerOf, refused, Reply, eventReply, storeOf, lentAfter, positionOf, Streamed, streamed, stream}
+use Rattle.definition.specs.Rows.{Store}
+use Rattle.definition.specs.Reader.{Lent, noRow, Answer, event, longEnough, inOrder, call, answerTo, answerOf, refused, Reply, eventReply, storeOf, lentAfter, positionOf, Streamed, streamed, stream}
 use Rattle.kept.proofs.Lending.{stays-in-order}
 use Rattle.lines.specs.Lines.{eventLength}
 use Rattle.lines.specs.Parts.{part}
 use Rattle.lines.proofs.LineLaws.{events-by-length}
+use Rattle.walk.proofs.StreamLaws.{event-within}
+use Rattle.event.specs.declared.Described.{Described}
+use Rattle.event.specs.Described.{described}
 use Rattle.questions.specs.Lent.{firstTwo}
 use Rattle.feed.specs.declared.Answer as F
 use Rattle.feed.specs.Fed.{given}
@@ -131,6 +135,36 @@ module _ (x : Lent) (p : Position) (bytes : List ℕ) where
       positive zero f = absurd (f refl)
       positive (suc j) f = omega arith
 
+-- A stream of one event is that event's call.
+module _ (x : Lent) (p : Position) (raw : List ℕ) (some : 0 < length raw) (one : eventLength raw ≡ length raw) where
+  is-step : stream limits01 x p raw ≡ step (call limits01 x p (event raw) .number) (ended 0 0 (call limits01 x p (event raw) .position) (call limits01 x p (event raw) .lent)) 0 x p
+  unfolding stream
+  is-step =
+      let a : Answer = call limits01 x p (event raw) in
+      let all : take (eventLength raw) raw ≡ raw = take-all (eventLength raw) raw (omega (arith, one)) in
+      let rest : length (drop (eventLength raw) raw) ≡ 0 = omega (arith, one, length-drop (eventLength raw) raw) in
+      one-more x p 0 raw some a (ap (λ (z : List ℕ). call limits01 x p (event z)) (sym all))
+      ∙ ap (λ (z : Streamed). step (a .number) z 0 x p) (sym (none-left (a .lent) (a .position) 1 (drop (eventLength raw) raw) rest))
+
+  pub one-event : (k n : ℕ) (q : Position) (y : Lent) → ended k n q y ≡ stream limits01 x p raw → given k q y ≡ call limits01 x p (event raw)
+  unfolding call answerTo answerOf refused step
+  one-event k n q y e = by (longEnough limits01 x) (inOrder limits01 x p) (eventReply limits01 (storeOf x p) raw) (e ∙ is-step)
+    where
+      Told : Answer → Type 0
+      Told a = ended k n q y ≡ step (a .number) (ended 0 0 (a .position) (a .lent)) 0 x p → given k q y ≡ a
+
+      told : (z : Streamed) → ended k n q y ≡ z → given k q y ≡ given (z .number) (z .position) (z .lent)
+      told z = ap (λ (w : Streamed). given (w .number) (w .position) (w .lent))
+
+      reply : (after : Store) (j : ℕ) → Told (elim j [ zero ↦ record { number = 0; row = noRow; lent = lentAfter x after; position = positionOf after } | suc i ↦ refused (suc i) x p ])
+      reply after zero f = told _ f
+      reply after (suc j) f = told _ f
+
+      by : (a b : Bool) (r : Reply) → Told (elim a [ false ↦ refused 1 x p | true ↦ elim b [ false ↦ refused 2 x p | true ↦ answerOf x p r ] ])
+      by true true r f = reply (r .store) (r .number) f
+      by true false r f = told _ f
+      by false b r f = told _ f
+
 -- ---- the loop: at byte i, after n events
 
 pub record Ran (x₀ : Lent) (p₀ : Position) (bytes : List ℕ) (x : Lent) (p : Position) (i n : ℕ) : Type 0 where
@@ -147,38 +181,55 @@ module _ (x₀ : Lent) (p₀ : Position) (bytes : List ℕ) where
     pub ran-last : length bytes ≤ i → ended 0 0 p x ≡ stream limits01 x₀ p₀ bytes
     ran-last h = none-left x p n (drop i bytes) (omega (arith, h, length-drop i bytes)) ∙ ran .rest
 
-    module _ (h : i < length bytes) (next : ℕ) (en : next ≡ i + eventLength (drop i bytes)) where
+    -- What is left, cut out.
+    abbrev leftover : List ℕ
+    leftover = take (length bytes - i) (drop i bytes)
+
+    left-is : leftover ≡ drop i bytes
+    left-is = take-all (length bytes - i) (drop i bytes) (omega (arith, length-drop i bytes))
+
+    module _ (h : i < length bytes) (m : ℕ) (ec : m ≡ eventLength leftover) where
+      em : m ≡ eventLength (drop i bytes)
+      em = ec ∙ ap eventLength left-is
+
       left : 0 < length (drop i bytes)
       left = omega (arith, h, length-drop i bytes)
 
-      pub goes-on : i < next
-      goes-on = omega (arith, en, some-bytes (drop i bytes) left)
+      pub goes-on : 0 < m
+      goes-on = omega (arith, em, some-bytes (drop i bytes) left)
 
-      module _ (raw : List ℕ) (er : raw ≡ part bytes i (next - i)) (k : ℕ) (q : Position) (y : Lent) (ea : given k q y ≡ answerTo limits01 x p (event raw)) where
+      pub stays-in : i + m ≤ length bytes
+      stays-in = omega (arith, h, em, event-within (drop i bytes), length-drop i bytes)
+
+      module _ (raw : List ℕ) (er : raw ≡ part bytes i m) where
         whole-event : raw ≡ take (eventLength (drop i bytes)) (drop i bytes)
         unfolding part
-        whole-event = let z : next - i ≡ eventLength (drop i bytes) = omega (arith, en) in er ∙ ap (λ (m : ℕ). take m (drop i bytes)) z
+        whole-event = er ∙ ap (λ (k : ℕ). take k (drop i bytes)) em
 
-        past : drop (eventLength (drop i bytes)) (drop i bytes) ≡ drop next bytes
-        past = drop-drop (eventLength (drop i bytes)) i bytes ∙ ap (λ (m : ℕ). drop m bytes) (sym en)
+        pub taken-apart : (d : Described) → d ≡ described (take (eventLength leftover) leftover) → d ≡ described raw
+        taken-apart d ed = ed ∙ (ap (λ (z : List ℕ). described (take (eventLength z) z)) left-is ∙ ap described (sym whole-event))
+
+      module _ (raw : List ℕ) (er : raw ≡ part bytes i m) (k : ℕ) (q : Position) (y : Lent) (ea : given k q y ≡ answerTo limits01 x p (event raw)) where
+        past : drop (eventLength (drop i bytes)) (drop i bytes) ≡ drop (i + m) bytes
+        past = drop-drop (eventLength (drop i bytes)) i bytes ∙ ap (λ (l : ℕ). drop (i + l) bytes) (sym em)
 
         is-call : given k q y ≡ call limits01 x p (event raw)
         is-call = ea ∙ call-answered x p (ran .asked) raw
 
-        stepped : step k (streamed limits01 y q (suc n) (eventsOf (drop next bytes))) n x p ≡ stream limits01 x₀ p₀ bytes
+        stepped : step k (streamed limits01 y q (suc n) (eventsOf (drop (i + m) bytes))) n x p ≡ stream limits01 x₀ p₀ bytes
         stepped =
             ap (λ (z : List ℕ). step k (streamed limits01 y q (suc n) (eventsOf z)) n x p) (sym past)
-            ∙ (sym (one-more x p n (drop i bytes) left (given k q y) (is-call ∙ ap (λ (z : List ℕ). call limits01 x p (event z)) whole-event)) ∙ ran .rest)
+            ∙ (sym (one-more x p n (drop i bytes) left (given k q y) (is-call ∙ ap (λ (z : List ℕ). call limits01 x p (event z)) (whole-event raw er))) ∙ ran .rest)
 
-        pub ran-more : k ≡ 0 → Ran x₀ p₀ bytes y q next (n + 1)
+        pub ran-more : k ≡ 0 → Ran x₀ p₀ bytes y q (i + m) (n + 1)
         unfolding step
         ran-more z =
             record {
               asked = again x p (ran .asked) raw (given k q y) is-call;
               few = omega (arith, goes-on, ran .few);
               rest =
-                  ap (λ (m : ℕ). streamed limits01 y q m (eventsOf (drop next bytes))) (add-one n)
-                  ∙ (ap (λ (m : ℕ). step m (streamed limits01 y q (suc n) (eventsOf (drop next bytes))) n x p) (sym z) ∙ stepped);
+                  ap (λ (l : ℕ). streamed limits01 y q l (eventsOf (drop (i + m) bytes))) (add-one n)
+                  ∙ (ap (λ (l : ℕ). step l (streamed limits01 y q (suc n) (eventsOf (drop (i + m) bytes))) n x p) (sym z) ∙ stepped);
             }
 
         pub ran-stop : (k ≡ 0 → ⊥) → ended k (n + 1) p y ≡ stream limits01 x₀ p₀ bytes
@@ -187,6 +238,6 @@ module _ (x₀ : Lent) (p₀ : Position) (bytes : List ℕ) where
             let l : y ≡ x = ap (λ (z : Answer). z .lent) ea ∙ stays x p raw (λ g. f (ap (λ (z : Answer). z .number) ea ∙ g)) in
             (λ j. ended k (add-one n j) p (l j)) ∙ (at k f ∙ stepped)
           where
-            at : (m : ℕ) → (m ≡ 0 → ⊥) → ended m (suc n) p x ≡ step m (streamed limits01 y q (suc n) (eventsOf (drop next bytes))) n x p
+            at : (l : ℕ) → (l ≡ 0 → ⊥) → ended l (suc n) p x ≡ step l (streamed limits01 y q (suc n) (eventsOf (drop (i + m) bytes))) n x p
             at zero f = absurd (f refl)
-            at (suc m) f = refl
+            at (suc l) f = refl

@@ -1,8 +1,8 @@
 // The events of a stream, one after another.
 use definition::Position;
+use event::describe_next;
 use feed::Answer;
 use feed::feed;
-use lines::next_event;
 use lines::part_of;
 ghost use mathlib.Core.Path.{_≡_};
 ghost use Rattle.definition.specs.Limits.{limits01};
@@ -54,7 +54,13 @@ pub fn feed_all(
     let mut i = 0;
     let mut n = 0;
     while i < bytes.len() {
-        let next = next_event(bytes, i);
+        let x = describe_next(&bytes[i..]);
+        let d = x.event;
+        let raw = part_of(bytes, i, x.end);
+        n += 1;
+        if d.number != 0 {
+            return end(d.number, n, q);
+        }
         let a = feed(
             chart,
             states,
@@ -70,14 +76,14 @@ pub fn feed_all(
             pending,
             text,
             q,
-            part_of(bytes, i, next - i),
+            raw,
+            d,
         );
-        n += 1;
         if a.number != 0 {
             return end(a.number, n, q);
         }
         q = a.position;
-        i = next;
+        i += x.end;
     }
     end(0, 0, q)
 }

@@ -2,10 +2,10 @@ use mathlib.Core.Path.{refl, sym, _∙_}
 use Rattle.questions.specs.Lent.{tables, lent}
 use Rattle.streams.proofs.Laws.{ends, stream-none, stream-refused}
 use borrow.Author.Needs.{needs}
-use Rattle.reader.proofs.stream.Statement.{statement}
-use Rattle.reader.proofs.stream.Tie as tie
-use Rattle.reader.proofs.stream.Reads as reads
-use Rattle.reader.proofs.stream.Lts as lts
+use Rattle.reader.proofs.chart_stream.Statement.{statement}
+use Rattle.reader.proofs.chart_stream.Tie as tie
+use Rattle.reader.proofs.chart_stream.Reads as reads
+use Rattle.reader.proofs.chart_stream.Lts as lts
 use Rattle.questions.proofs.asked.Reads as asked-reads
 use Rattle.streams.proofs.end.Reads as end-reads
 use Rattle.streams.proofs.feed_all.Reads as feed-all-reads
@@ -109,8 +109,8 @@ same-length-26 c = c .before .before .before .before .before .before .before .be
 returns-3 : tie.Need-returns-3
 returns-3 c = c .before .before .before .before .before .before .before .before .before .before .before .before .before .before .feed-all .ensures
 
-pub stream-spec : {M : Type 1} → statement M
-stream-spec =
+pub chart-stream-spec : {M : Type 1} → statement M
+chart-stream-spec =
     tie.close
     (tie.spec
     end-requires
