@@ -42,9 +42,9 @@
  *     state 1: __id1, below 0
  *     state 2: off, below 1
  *
- * and is compiled, where target/staticlib/libchartreader.a was written by `rt staticlib chartreader`, by
+ * and is compiled, where target/staticlib/libreader.a was written by `rt staticlib reader`, by
  *
- *     cc -std=c99 -Iinclude lamp.c target/staticlib/libchartreader.a
+ *     cc -std=c99 -Iinclude lamp.c target/staticlib/libreader.a
  *
  * Numbers. States have the numbers 1, 2, .. to position.states. Transitions and regions keep a number of their own, drawn
  * from one counter: chart_transition_number and chart_region_number give it by place. All other rows are numbered by
