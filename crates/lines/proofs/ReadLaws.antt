@@ -34,12 +34,6 @@ module _ (raw : List ℕ) (at len : ℕ) where
   unfolding part
   part-mid = let z : at + len - at ≡ len = omega arith in rw z
 
-pub head-none : (l : List ℕ) (n : ℕ) → length l ≤ n → [] ≡ drop n l
-head-none l n h = sym (drop-of-length-le l h)
-
-pub head-rest : (l : List ℕ) (n : ℕ) → take (length l - n) (drop n l) ≡ drop n l
-head-rest l n = let h : length (drop n l) ≤ length l - n = omega (arith, length-drop n l) in take-all (length l - n) (drop n l) h
-
 -- ---- texts as they are read
 
 abbrev pub text : List ℕ → List ℕ
