@@ -14,6 +14,7 @@ use text::same_at;
 use words::next_state_word;
 use written::put_generated;
 ghost use mathlib.Core.Path.{_≡_};
+ghost use mathlib.Core.Bool.{true};
 ghost use mathlib.Core.List.{_∷_, []};
 ghost use Prim.Native.Nat.{_+_, _<_, _≤_};
 ghost use lib.ListN.{length, take, drop};
@@ -22,6 +23,7 @@ ghost use Rattle.definition.specs.Text.{stateWords};
 ghost use Rattle.definition.specs.Rows.{textAt};
 ghost use Rattle.definition.specs.Limits.{limits01};
 ghost use Rattle.definition.specs.Look.{findName, nameCells};
+ghost use Rattle.definition.specs.Rules.{namesLead};
 ghost use Rattle.plain.specs.Plain.{slotsOf, parsedIn};
 ghost use Rattle.plain.specs.Keyed.{keyedOf};
 ghost use Rattle.names.specs.Names.{endsSo, firstLike, wordsFrom, occurs, newIf, firstNonzero, counted, stateNames, namesIn};
@@ -126,6 +128,22 @@ pub fn find_state(states: &[[u32; 24]], count: usize, text: &[u8], w: &[u8]) -> 
         return find_short(states, count, text, w);
     }
     find_long(states, count, text, w)
+}
+
+// The same for names that are distinct, as they are where question 2 is yes: then any row that has the name is the first. The row `near` is looked at first.
+pub fn find_apart(
+    states: &[[u32; 24]],
+    count: usize,
+    text: &[u8],
+    w: &[u8],
+    near: usize,
+) -> usize
+    requires { ⌜ count ≤ length (now states) ⌝ }
+    requires { ⌜ namesLead (now text) (nameCells (take count (now states))) 0 (nameCells (take count (now states))) ≡ true ⌝ }
+    ensures { λ r. ⌜ r ≡ findName (now (text .entry)) (nameCells (take count (now (states .entry)))) (now (w .entry)) ⌝ }
+    ensures { λ r. ⌜ r ≤ count ⌝ }
+{
+    find_state(states, count, text, w)
 }
 
 // Of all rows.
