@@ -15,7 +15,7 @@ use Rattle.lines.specs.declared.Tail.{Tail}
 use Rattle.lines.specs.Lines.{lineLength}
 use Rattle.lines.specs.Escapes.{counted, scanned}
 use Rattle.lines.specs.Parts.{part}
-use Rattle.lines.specs.Blocks.{all, isWithinLine, isPlain}
+use Rattle.lines.specs.Blocks.{all, isWithinLine, isPlain, isText}
 use Rattle.lines.proofs.LineLaws.{line-more}
 use Rattle.lines.proofs.EscapeLaws.{width-plain, scan-more, scan-end}
 
@@ -32,15 +32,16 @@ module _ (p : ℕ → Bool) where
         let m : n < length (drop i s) = omega (arith, length-drop i s) in
         rw (take-suc (drop i s) n 0 m, getD-drop i s n 0) (all-snoc (part s i n) (getD s (i + n) 0))
 
-    -- Whether p holds of the bytes from i to i + k, as code writes it that looks at each of them.
-    unfoldable pub joined : ℕ → Bool
-    joined zero = p (getD s i 0)
-    joined (suc k) = joined k && p (getD s (i + suc k) 0)
+    -- A loop that looks at each of n bytes: before the first, at one more, behind the last.
+    pub all-none : true ≡ all p (part s i 0)
+    unfolding all part
+    all-none = refl
 
-    pub joined-all : (k : ℕ) → i + k < length s → joined k ≡ all p (part s i (suc k))
-    unfolding joined all part
-    joined-all zero h = let z : i + 0 ≡ i = omega arith in rw (all-last 0 h, z)
-    joined-all (suc k) h = ap (λ (x : Bool). x && p (getD s (i + suc k) 0)) (joined-all k (omega arith)) ∙ sym (all-last (suc k) h)
+    pub all-more : (n : ℕ) (so : Bool) → i + n < length s → so ≡ all p (part s i n) → (so && p (getD s (i + n) 0)) ≡ all p (part s i (n + 1))
+    all-more n so h e = let z : n + 1 ≡ suc n = omega arith in rw z (ap (λ (x : Bool). x && p (getD s (i + n) 0)) e ∙ sym (all-last n h))
+
+    pub all-done : (n j : ℕ) (so : Bool) → j ≤ n → n ≤ j → so ≡ all p (part s i j) → so ≡ all p (part s i n)
+    all-done n j so h k e = let z : j ≡ n = omega arith in e ∙ ap (λ (x : ℕ). all p (part s i x)) z
 
     -- What is the same past each byte of which p holds is the same past a block of them.
     pub past-block : {A : Type 0} (f : ℕ → A) → ((j : ℕ) → j < length s → p (getD s j 0) ≡ true → f (j + 1) ≡ f j)
@@ -84,12 +85,21 @@ module _ (p : ℕ → Bool) where
     unfolding part
     all-up m h = all-fewer m (i + n - from) (drop from s) (omega arith) all-on
 
-  -- Two blocks, one behind the other.
-  pub both-blocks : (s : List ℕ) (i n : ℕ) (a b : Bool) → a ≡ all p (part s i n) → b ≡ all p (part s (i + n) n) → not (a && b) ≡ false → all p (part s i (n + n)) ≡ true
-  unfolding part
-  both-blocks s i n a b ea eb e =
-      let g : (a ≡ true) × (b ≡ true) = and-eq-true-iff _ _ .0 (not-false _ e) in
-      all-join n n (drop i s) (sym ea ∙ g .0) (ap (λ (x : List ℕ). all p (take n x)) (drop-drop n i s) ∙ (sym eb ∙ g .1))
+-- What follows for each byte follows for all.
+all-weaker : (p q : ℕ → Bool) → ((b : ℕ) → p b ≡ true → q b ≡ true) → (l : List ℕ) → all p l ≡ true → all q l ≡ true
+unfolding all
+all-weaker p q f [] e = refl
+all-weaker p q f (b ∷ l) e =
+    let g : (p b ≡ true) × (all p l ≡ true) = and-eq-true-iff (p b) (all p l) .0 e in
+    and-eq-true-iff (q b) (all q l) .1 (f b (g .0), all-weaker p q f l (g .1))
+
+pub text-within : (l : List ℕ) → all isText l ≡ true → all isWithinLine l ≡ true
+unfolding isText
+text-within = all-weaker isText isWithinLine (λ b e. and-eq-true-iff (isWithinLine b) (isPlain b) .0 e .0)
+
+pub text-plain : (l : List ℕ) → all isText l ≡ true → all isPlain l ≡ true
+unfolding isText
+text-plain = all-weaker isText isPlain (λ b e. and-eq-true-iff (isWithinLine b) (isPlain b) .0 e .1)
 
 -- A block that is not within a line has the line's end.
 line-in : (n : ℕ) (t : List ℕ) → all isWithinLine (take n t) ≡ false → (lineLength t < n) × (lineLength t < length t)

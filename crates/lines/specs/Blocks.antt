@@ -18,3 +18,8 @@ isWithinLine b = not (eqb b 10)
 unfoldable pub isPlain : ℕ → Bool
 unfolding isAllowed
 isPlain b = not (eqb b 92) && isAllowed b
+
+-- Whether a byte is a text's byte on its line.
+unfoldable pub isText : ℕ → Bool
+unfolding isWithinLine isPlain
+isText b = isWithinLine b && isPlain b

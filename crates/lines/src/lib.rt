@@ -7,7 +7,7 @@ ghost use Rattle.definition.specs.Text.{str, same};
 ghost use Rattle.definition.specs.Event.{legible};
 ghost use Rattle.lines.specs.Lines.{lineLength, hasHead, eventLength};
 ghost use Rattle.lines.specs.Escapes.{counted, scanned, firstWidth, firstByte, placed, fitting, lengthOf};
-ghost use Rattle.lines.specs.Blocks.{all, isWithinLine, isPlain};
+ghost use Rattle.lines.specs.Blocks.{all, isWithinLine, isPlain, isText};
 ghost use Rattle.lines.specs.Parts.{part, orNothing};
 
 // What a scan of a line finds: whether it is legible, and its unescaped length.
@@ -22,22 +22,23 @@ pub struct Tail {
     pub plain: bool,
 }
 
-// How many bytes are looked at together: the compiler compares them at once.
+// How many bytes are looked at together, on short lines and in texts. A loop over so many has no early end, so that the compiler compares sixteen at once.
 const BLOCK: usize = 8;
+
+const RUN: usize = 64;
 
 // Whether no byte of the block at `i` is byte 10.
 fn is_block_within_line(raw: &[u8], i: usize) -> bool
     requires { do ⌜ i + (← ⟦BLOCK⟧) ≤ length (now raw) ⌝ }
     ensures { λ r. do ⌜ r ≡ all isWithinLine (part (now (raw .entry)) i (← ⟦BLOCK⟧ .entry)) ⌝ }
 {
-    (raw[i] != 10)
-        & (raw[i + 1] != 10)
-        & (raw[i + 2] != 10)
-        & (raw[i + 3] != 10)
-        & (raw[i + 4] != 10)
-        & (raw[i + 5] != 10)
-        & (raw[i + 6] != 10)
-        & (raw[i + 7] != 10)
+    let mut so = true;
+    let mut j = 0;
+    while j < BLOCK {
+        so = so & (raw[i + j] != 10);
+        j += 1;
+    }
+    so
 }
 
 // Whether a byte on a line is the text's byte: it is no backslash and below 128.
@@ -52,14 +53,28 @@ fn is_block_plain(raw: &[u8], i: usize) -> bool
     requires { do ⌜ i + (← ⟦BLOCK⟧) ≤ length (now raw) ⌝ }
     ensures { λ r. do ⌜ r ≡ all isPlain (part (now (raw .entry)) i (← ⟦BLOCK⟧ .entry)) ⌝ }
 {
-    is_plain(raw[i])
-        & is_plain(raw[i + 1])
-        & is_plain(raw[i + 2])
-        & is_plain(raw[i + 3])
-        & is_plain(raw[i + 4])
-        & is_plain(raw[i + 5])
-        & is_plain(raw[i + 6])
-        & is_plain(raw[i + 7])
+    let mut so = true;
+    let mut j = 0;
+    while j < BLOCK {
+        so = so & is_plain(raw[i + j]);
+        j += 1;
+    }
+    so
+}
+
+// Whether each byte of the run at `i` is the text's byte, and within its line.
+fn is_run_text(raw: &[u8], i: usize) -> bool
+    requires { do ⌜ i + (← ⟦RUN⟧) ≤ length (now raw) ⌝ }
+    ensures { λ r. do ⌜ r ≡ all isText (part (now (raw .entry)) i (← ⟦RUN⟧ .entry)) ⌝ }
+{
+    let mut so = true;
+    let mut j = 0;
+    while j < RUN {
+        let b = raw[i + j];
+        so = so & ((b != 10) & is_plain(b));
+        j += 1;
+    }
+    so
 }
 
 fn tail_to(end: usize, plain: bool) -> Tail
@@ -135,7 +150,7 @@ pub fn tail_of(raw: &[u8], from: usize) -> Tail
     tail_to(end_near(raw, i), false)
 }
 
-// Passes blocks by two, which the compiler looks at together, up to one that has a byte 10 or a byte that is not the text's.
+// Passes runs up to one that has a byte 10 or a byte that is not the text's.
 fn skip_long(raw: &[u8], from: usize) -> usize
     ensures behind { λ r. ⌜ from ≤ r ⌝ }
     ensures line { λ r. ⌜ r + lineLength (drop r (now (raw .entry))) ≡ from + lineLength (drop from (now (raw .entry))) ⌝ }
@@ -145,14 +160,11 @@ fn skip_long(raw: &[u8], from: usize) -> usize
         return from;
     }
     let mut i = from;
-    while BLOCK + BLOCK <= raw.len() - i {
-        if !(is_block_plain(raw, i) & is_block_plain(raw, i + BLOCK)) {
+    while RUN <= raw.len() - i {
+        if !is_run_text(raw, i) {
             return i;
         }
-        if !(is_block_within_line(raw, i) & is_block_within_line(raw, i + BLOCK)) {
-            return i;
-        }
-        i += BLOCK + BLOCK;
+        i += RUN;
     }
     i
 }

@@ -1,108 +1,46 @@
-use Rattle.lines.proofs.BlockLaws.{joined, joined-all}
-use Rattle.lines.specs.Blocks.{isPlain}
+use Rattle.lines.proofs.BlockLaws.{all-none, all-more, all-done}
+use Rattle.lines.specs.Blocks.{all, isPlain}
+use Rattle.lines.specs.Parts.{part}
 use native.Mathlib.Omega.{arith}
+use mathlib.Core.Path.{_≡_, ap, _∙_}
+use mathlib.Core.Bool.{Bool, _&&_}
+use Prim.Native.Nat.{_-_, _≤_}
 use borrow.Author.Needs.{needs}
 use Rattle.lines.proofs.is_block_plain.Statement.{statement}
 use Rattle.lines.proofs.is_block_plain.Tie as tie
+use Rattle.lines.proofs.is_block_plain.Reads as reads
+use Rattle.lines.proofs.is_block_plain.Lts as lts
+use Rattle.lines.proofs.is_plain.Reads as is-plain-reads
 
-shared-slice-read-is-plain : tie.Need-shared-slice-read-is-plain
-shared-slice-read-is-plain c = omega arith
+abbrev Inv-loop : tie.InvT-loop
+Inv-loop raw i so₀ j₀ so j = (j ≤ 8) × (so ≡ all isPlain (part raw i j))
 
-is-plain-requires : tie.Need-is-plain-requires
+abbrev μ-loop : tie.MeasureT-loop
+μ-loop raw i so₀ j₀ so j = 8 - j
+
+loop-holds : tie.Need-loop-holds Inv-loop μ-loop
+loop-holds c = (omega arith, all-none isPlain _ _)
+
+add-is-plain : tie.Need-add-is-plain Inv-loop μ-loop
+add-is-plain c = search needs
+
+shared-slice-read-is-plain : tie.Need-shared-slice-read-is-plain Inv-loop μ-loop
+shared-slice-read-is-plain c = search needs
+
+is-plain-requires : tie.Need-is-plain-requires Inv-loop μ-loop
 is-plain-requires c κs = search needs
 
-add-is-plain : tie.Need-add-is-plain
-add-is-plain c = omega arith
+add-j : tie.Need-add-j Inv-loop μ-loop
+add-j c = search needs
 
-shared-slice-read-is-plain-2 : tie.Need-shared-slice-read-is-plain-2
-shared-slice-read-is-plain-2 c = omega arith
+loop-less : tie.Need-loop-less Inv-loop μ-loop
+loop-less c = search needs
 
-is-plain-requires-2 : tie.Need-is-plain-requires-2
-is-plain-requires-2 c κs = search needs
+loop-again : tie.Need-loop-again Inv-loop μ-loop
+loop-again c = (omega (arith, c .before .before .loop-test .taken), ap (λ (x : Bool). c .before .before .before .loop .so && x) (c .is-plain .ensures) ∙ all-more isPlain _ _ (c .before .before .before .loop .j) _ (omega (arith, c .before .before .loop-test .taken, c .before .before .before .before .before .pre)) (c .before .before .before .loop .inv .1))
 
-add-is-plain-2 : tie.Need-add-is-plain-2
-add-is-plain-2 c = omega arith
-
-shared-slice-read-is-plain-3 : tie.Need-shared-slice-read-is-plain-3
-shared-slice-read-is-plain-3 c = omega arith
-
-is-plain-requires-3 : tie.Need-is-plain-requires-3
-is-plain-requires-3 c κs = search needs
-
-add-is-plain-3 : tie.Need-add-is-plain-3
-add-is-plain-3 c = omega arith
-
-shared-slice-read-is-plain-4 : tie.Need-shared-slice-read-is-plain-4
-shared-slice-read-is-plain-4 c = omega arith
-
-is-plain-requires-4 : tie.Need-is-plain-requires-4
-is-plain-requires-4 c κs = search needs
-
-add-is-plain-4 : tie.Need-add-is-plain-4
-add-is-plain-4 c = omega arith
-
-shared-slice-read-is-plain-5 : tie.Need-shared-slice-read-is-plain-5
-shared-slice-read-is-plain-5 c = omega arith
-
-is-plain-requires-5 : tie.Need-is-plain-requires-5
-is-plain-requires-5 c κs = search needs
-
-add-is-plain-5 : tie.Need-add-is-plain-5
-add-is-plain-5 c = omega arith
-
-shared-slice-read-is-plain-6 : tie.Need-shared-slice-read-is-plain-6
-shared-slice-read-is-plain-6 c = omega arith
-
-is-plain-requires-6 : tie.Need-is-plain-requires-6
-is-plain-requires-6 c κs = search needs
-
-add-is-plain-6 : tie.Need-add-is-plain-6
-add-is-plain-6 c = omega arith
-
-shared-slice-read-is-plain-7 : tie.Need-shared-slice-read-is-plain-7
-shared-slice-read-is-plain-7 c = omega arith
-
-is-plain-requires-7 : tie.Need-is-plain-requires-7
-is-plain-requires-7 c κs = search needs
-
-add-is-plain-7 : tie.Need-add-is-plain-7
-add-is-plain-7 c = omega arith
-
-shared-slice-read-is-plain-8 : tie.Need-shared-slice-read-is-plain-8
-shared-slice-read-is-plain-8 c = omega arith
-
-is-plain-requires-8 : tie.Need-is-plain-requires-8
-is-plain-requires-8 c κs = search needs
-
-returns : tie.Need-returns
-unfolding joined
-returns c = rw (c .before .before .before .before .before .before .before .before .before .before .before .before .before .before .is-plain .ensures, c .before .before .before .before .before .before .before .before .before .before .before .before .is-plain2 .ensures, c .before .before .before .before .before .before .before .before .before .before .is-plain3 .ensures, c .before .before .before .before .before .before .before .before .is-plain4 .ensures, c .before .before .before .before .before .before .is-plain5 .ensures, c .before .before .before .before .is-plain6 .ensures, c .before .before .is-plain7 .ensures, c .is-plain8 .ensures) (joined-all isPlain _ _ 7 (omega arith))
+returns : tie.Need-returns Inv-loop μ-loop
+returns c = all-done isPlain _ _ 8 _ _ (c .before .loop .inv .0) (c .loop-test .left) (c .before .loop .inv .1)
 
 pub is-block-plain-spec : {M : Type 1} → statement M
-is-block-plain-spec =
-    tie.close
-    (tie.spec
-    shared-slice-read-is-plain
-    is-plain-requires
-    add-is-plain
-    shared-slice-read-is-plain-2
-    is-plain-requires-2
-    add-is-plain-2
-    shared-slice-read-is-plain-3
-    is-plain-requires-3
-    add-is-plain-3
-    shared-slice-read-is-plain-4
-    is-plain-requires-4
-    add-is-plain-4
-    shared-slice-read-is-plain-5
-    is-plain-requires-5
-    add-is-plain-5
-    shared-slice-read-is-plain-6
-    is-plain-requires-6
-    add-is-plain-6
-    shared-slice-read-is-plain-7
-    is-plain-requires-7
-    add-is-plain-7
-    shared-slice-read-is-plain-8
-    is-plain-requires-8
-    returns)
+is-block-plain-spec = tie.close (tie.spec Inv-loop μ-loop loop-holds add-is-plain shared-slice-read-is-plain is-plain-requires add-j loop-less loop-again returns)

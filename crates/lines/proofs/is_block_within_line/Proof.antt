@@ -1,75 +1,42 @@
-use Rattle.lines.proofs.BlockLaws.{joined, joined-all}
-use Rattle.lines.specs.Blocks.{isWithinLine}
+use Rattle.lines.proofs.BlockLaws.{all-none, all-more, all-done}
+use Rattle.lines.specs.Blocks.{all, isWithinLine}
+use Rattle.lines.specs.Parts.{part}
 use native.Mathlib.Omega.{arith}
+use mathlib.Core.Path.{_≡_}
+use Prim.Native.Nat.{_-_, _≤_}
+use borrow.Author.Needs.{needs}
 use Rattle.lines.proofs.is_block_within_line.Statement.{statement}
 use Rattle.lines.proofs.is_block_within_line.Tie as tie
+use Rattle.lines.proofs.is_block_within_line.Reads as reads
+use Rattle.lines.proofs.is_block_within_line.Lts as lts
 
-shared-slice-read-result : tie.Need-shared-slice-read-result
-shared-slice-read-result c = omega arith
+abbrev Inv-loop : tie.InvT-loop
+Inv-loop raw i so₀ j₀ so j = (j ≤ 8) × (so ≡ all isWithinLine (part raw i j))
 
-add-result : tie.Need-add-result
-add-result c = omega arith
+abbrev μ-loop : tie.MeasureT-loop
+μ-loop raw i so₀ j₀ so j = 8 - j
 
-shared-slice-read-result-2 : tie.Need-shared-slice-read-result-2
-shared-slice-read-result-2 c = omega arith
+loop-holds : tie.Need-loop-holds Inv-loop μ-loop
+loop-holds c = (omega arith, all-none isWithinLine _ _)
 
-add-result-2 : tie.Need-add-result-2
-add-result-2 c = omega arith
+add-so : tie.Need-add-so Inv-loop μ-loop
+add-so c = search needs
 
-shared-slice-read-result-3 : tie.Need-shared-slice-read-result-3
-shared-slice-read-result-3 c = omega arith
+shared-slice-read-so : tie.Need-shared-slice-read-so Inv-loop μ-loop
+shared-slice-read-so c = search needs
 
-add-result-3 : tie.Need-add-result-3
-add-result-3 c = omega arith
+add-j : tie.Need-add-j Inv-loop μ-loop
+add-j c = search needs
 
-shared-slice-read-result-4 : tie.Need-shared-slice-read-result-4
-shared-slice-read-result-4 c = omega arith
+loop-less : tie.Need-loop-less Inv-loop μ-loop
+loop-less c = search needs
 
-add-result-4 : tie.Need-add-result-4
-add-result-4 c = omega arith
+loop-again : tie.Need-loop-again Inv-loop μ-loop
+unfolding isWithinLine
+loop-again c = (omega (arith, c .before .loop-test .taken), all-more isWithinLine _ _ (c .before .before .loop .j) _ (omega (arith, c .before .loop-test .taken, c .before .before .before .pre)) (c .before .before .loop .inv .1))
 
-shared-slice-read-result-5 : tie.Need-shared-slice-read-result-5
-shared-slice-read-result-5 c = omega arith
-
-add-result-5 : tie.Need-add-result-5
-add-result-5 c = omega arith
-
-shared-slice-read-result-6 : tie.Need-shared-slice-read-result-6
-shared-slice-read-result-6 c = omega arith
-
-add-result-6 : tie.Need-add-result-6
-add-result-6 c = omega arith
-
-shared-slice-read-result-7 : tie.Need-shared-slice-read-result-7
-shared-slice-read-result-7 c = omega arith
-
-add-result-7 : tie.Need-add-result-7
-add-result-7 c = omega arith
-
-shared-slice-read-result-8 : tie.Need-shared-slice-read-result-8
-shared-slice-read-result-8 c = omega arith
-
-returns : tie.Need-returns
-unfolding joined isWithinLine
-returns c = joined-all isWithinLine _ _ 7 (omega arith)
+returns : tie.Need-returns Inv-loop μ-loop
+returns c = all-done isWithinLine _ _ 8 _ _ (c .before .loop .inv .0) (c .loop-test .left) (c .before .loop .inv .1)
 
 pub is-block-within-line-spec : {M : Type 1} → statement M
-is-block-within-line-spec =
-    tie.close
-    (tie.spec
-    shared-slice-read-result
-    add-result
-    shared-slice-read-result-2
-    add-result-2
-    shared-slice-read-result-3
-    add-result-3
-    shared-slice-read-result-4
-    add-result-4
-    shared-slice-read-result-5
-    add-result-5
-    shared-slice-read-result-6
-    add-result-6
-    shared-slice-read-result-7
-    add-result-7
-    shared-slice-read-result-8
-    returns)
+is-block-within-line-spec = tie.close (tie.spec Inv-loop μ-loop loop-holds add-so shared-slice-read-so add-j loop-less loop-again returns)
