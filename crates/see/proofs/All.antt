@@ -101,7 +101,7 @@ module _ (s : Store) (l : Look) where
         entry = numberIf (isPart g) (lastEntry n (n .current));
         kind = kind-is (isPart g) (tableOf n (table .entries)) (lastEntry n (n .current)) j;
         invoke = numberIf (isInvoked g) (lastInvoke n (currentState n));
-        place = numberIf (eqb g 16) (placeOfNumber (tableOf n (table .transitions)) (currentTransition n));
+        place = numberIf (not (isStart (l .kind)) && eqb g 16) (placeOfNumber (tableOf n (table .transitions)) (currentTransition n));
         initial = transitionId (initialOf n (currentState n));
         donedata = num (rowOf (tableOf n (table .states)) (currentState n)) 8;
         first = stateId (numberIf (not (isStart (l .kind)) && eqb g 2) (firstChildOr 0 (currentState n) (tableOf n (table .members))));

@@ -3,3 +3,4 @@ pub mod Cells
 pub mod Told
 pub mod Enough
 pub mod All
+pub mod Nexts

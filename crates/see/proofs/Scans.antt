@@ -21,7 +21,7 @@ last-cons : (c v i a : ℕ) (x : Row) (xs : Table) → (eqb (num x c) v ≡ true
 unfolding lastWith
 last-cons c v i a x xs = ((λ e. rw (e, lastWith)), (λ e. rw (e, lastWith)))
 
-by : {A : Type 0} (b : Bool) → (b ≡ true → A) → (b ≡ false → A) → A
+pub by : {A : Type 0} (b : Bool) → (b ≡ true → A) → (b ≡ false → A) → A
 by true f g = f refl
 by false f g = g refl
 
@@ -58,7 +58,7 @@ none-last c v t (suc k) e = absurd (omega arith)
 
 -- ---- forward
 
-no-row : (t : Table) (i : ℕ) → length t ≤ i → drop i t ≡ []
+pub no-row : (t : Table) (i : ℕ) → length t ≤ i → drop i t ≡ []
 no-row [] zero h = refl
 no-row [] (suc i) h = refl
 no-row (x ∷ t) zero h = absurd (omega arith)
@@ -90,7 +90,7 @@ place-le (r ∷ rs) i = go (eqb (num r 0) i) (placeOfNumber rs i) (place-le rs i
 
 -- ---- children
 
-child-cons : (p s : ℕ) (x : Row) (xs : Table) → isChildIn p s (x ∷ xs) ≡ (sameList 1 p x && eqb s (num x 2)) || isChildIn p s xs
+pub child-cons : (p s : ℕ) (x : Row) (xs : Table) → isChildIn p s (x ∷ xs) ≡ (sameList 1 p x && eqb s (num x 2)) || isChildIn p s xs
 unfolding isChildIn listed valuesOf among
 child-cons p s x xs = go (sameList 1 p x) refl (eqb s (num x 2)) refl where
   go : (b : Bool) → sameList 1 p x ≡ b → (d : Bool) → eqb s (num x 2) ≡ d → isChildIn p s (x ∷ xs) ≡ (b && d) || isChildIn p s xs

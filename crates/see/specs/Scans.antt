@@ -1,6 +1,7 @@
 -- Reads of tables, of the table alone.
 use Prim.Native.Nat.{ℕ, zero, suc}
 use mathlib.Core.Bool.{Bool, true, false}
+use mathlib.Core.List.{[], _∷_}
 use lib.Dec.{eqb}
 use Rattle.definition.specs.Elements.{among}
 use Rattle.definition.specs.Rows.{Table, list, entry, entryKind, num, rowOf, listed, valuesOf}
@@ -21,3 +22,8 @@ walkOver (suc fuel) t r =
 unfoldable pub isChildIn : ℕ → ℕ → Table → Bool
 unfolding among valuesOf listed
 isChildIn p s t = among s (valuesOf (listed (list .children) p t))
+
+-- How many rows stand before the first that has v in column c.
+unfoldable pub firstWith : ℕ → ℕ → Table → ℕ
+firstWith c v [] = 0
+firstWith c v (r ∷ rs) = elim (eqb (num r c) v) [ true ↦ 0 | false ↦ suc (firstWith c v rs) ]

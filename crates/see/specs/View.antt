@@ -64,7 +64,7 @@ insideOf w = record { state = stateId (num (lastOf [] w) (opened .state)); trans
 
 -- As the code reads it: of the chart, states, transitions, entries, invokes, members, open elements, open regions.
 unfoldable pub seenBy : ℕ → ℕ → ℕ → Position → Table → Table → Table → Table → Table → Table → Table → Table → Seen
-unfolding familyOf walkAfter walkedIf isElse isPart isInvoked rowOf lastOf closes closedAt lastWith placeOfNumber numberIf doesClose closingIf
+unfolding familyOf walkAfter walkedIf isStart isElse isPart isInvoked rowOf lastOf closes closedAt lastWith placeOfNumber numberIf doesClose closingIf
 seenBy k g o p c s t e i m w r =
     let now : ℕ = num (lastOf [] w) (opened .state) in
     let transition : ℕ = num (lastOf [] w) (opened .transition) in
@@ -89,7 +89,7 @@ seenBy k g o p c s t e i m w r =
       entry = last;
       kind = num (rowOf e last) (Rattle.definition.specs.Rows.entry .kind);
       invoke = numberIf (isInvoked g) (lastWith (Rattle.definition.specs.Rows.invoke .state) now 0 0 i);
-      place = numberIf (eqb g (tag .transition)) (placeOfNumber t transition);
+      place = numberIf (not (isStart k) && eqb g (tag .transition)) (placeOfNumber t transition);
       initial = transitionId (num (rowOf s now) (Rattle.definition.specs.Rows.state .initial));
       donedata = num (rowOf s now) (Rattle.definition.specs.Rows.state .donedata);
       first = f .first;

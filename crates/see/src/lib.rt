@@ -23,15 +23,16 @@ use rows::state_cell;
 use rows::transition_place;
 ghost use mathlib.Core.Path.{_≡_};
 ghost use mathlib.Core.List.{[]};
-ghost use Prim.Native.Nat.{_<_, _≤_, _^_};
-ghost use lib.ListN.{length, getD};
-ghost use lib.Dec.{eqb};
+ghost use mathlib.Core.Bool.{_&&_, not};
+ghost use Prim.Native.Nat.{_+_, _<_, _≤_, _^_};
+ghost use lib.ListN.{length, getD, drop};
+ghost use lib.Dec.{eqb, ltb};
 ghost use Rattle.definition.specs.Rows.{num, rowOf};
 ghost use Rattle.definition.specs.Actions.{lastWith, placeOfNumber};
 ghost use Rattle.plan.specs.Ids.{stateId, transitionId};
 ghost use Rattle.plan.specs.Seen.{closes, closedAt, firstChildOr};
-ghost use Rattle.see.specs.Scans.{walkOver, isChildIn};
-ghost use Rattle.see.specs.Masked.{numberIf, boolIf, walkedIf, closingIf, doesClose, isElse, isPart, isInvoked};
+ghost use Rattle.see.specs.Scans.{walkOver, isChildIn, firstWith};
+ghost use Rattle.see.specs.Masked.{isStart, numberIf, boolIf, walkedIf, closingIf, doesClose, isElse, isPart, isInvoked};
 ghost use Rattle.see.specs.View.{walkAfter, defaultFor, familyOf, insideOf, seenBy, Short};
 
 /// The chart's root; 0 where there is no row.
@@ -208,35 +209,82 @@ fn else_walk(entries: &[[u32; 48]], steps: u32, region: RegionId) -> Walked
     Walked { met: 0, at: 0 }
 }
 
+// How many rows are looked at before the next test for the end: the compiler writes them out.
+const BLOCK: usize = 8;
+
+/// Whether no row of the block at `i` has v in a column.
+fn is_block_without(members: &[[u32; 8]], c: usize, v: u32, i: usize) -> bool
+    requires { do ⌜ (c < 8) × (i + (← ⟦BLOCK⟧) ≤ length (now members)) ⌝ }
+    ensures { λ r. do ⌜ r ≡ not (ltb (firstWith c v (drop i (now (members .entry)))) (← ⟦BLOCK⟧ .entry)) ⌝ }
+{
+    let mut j = 0;
+    while j < BLOCK {
+        if members[i + j][c] == v {
+            return false;
+        }
+        j += 1;
+    }
+    true
+}
+
+/// The first row from `from` on that has v in a column; the number of rows where there is none.
+fn next_near(members: &[[u32; 8]], c: usize, v: u32, from: usize) -> usize
+    requires { ⌜ (c < 8) × (from ≤ length (now members)) ⌝ }
+    ensures { λ r. ⌜ r ≡ from + firstWith c v (drop from (now (members .entry))) ⌝ }
+    ensures { λ r. ⌜ r ≤ length (now (members .entry)) ⌝ }
+{
+    let mut i = from;
+    while i < members.len() {
+        if members[i][c] == v {
+            return i;
+        }
+        i += 1;
+    }
+    i
+}
+
+/// The same, for many rows.
+fn next_with(members: &[[u32; 8]], c: usize, v: u32, from: usize) -> usize
+    requires { ⌜ (c < 8) × (from ≤ length (now members)) ⌝ }
+    ensures { λ r. ⌜ r ≡ from + firstWith c v (drop from (now (members .entry))) ⌝ }
+    ensures { λ r. ⌜ r ≤ length (now (members .entry)) ⌝ }
+{
+    let mut i = from;
+    while BLOCK <= members.len() - i {
+        if !is_block_without(members, c, v, i) {
+            return next_near(members, c, v, i);
+        }
+        i += BLOCK;
+    }
+    next_near(members, c, v, i)
+}
+
 /// The first child of a state; d where it has none.
 fn first_child(members: &[[u32; 8]], d: u32, s: StateId) -> u32
     ensures { λ r. ⌜ r ≡ firstChildOr d (s .0) (now (members .entry)) ⌝ }
 {
-    let mut i = 0;
+    let mut i = next_with(members, MemberColumn::OWNER, s.0, 0);
     while i < members.len() {
-        if (members[i][MemberColumn::LIST] == ListKind::CHILDREN)
-            & (members[i][MemberColumn::OWNER] == s.0)
-        {
+        if members[i][MemberColumn::LIST] == ListKind::CHILDREN {
             return members[i][MemberColumn::VALUE];
         }
-        i += 1;
+        i = next_with(members, MemberColumn::OWNER, s.0, i + 1);
     }
     d
 }
 
-/// Whether s is a child of p. From the end: children are asked for as they come.
+/// Whether s is a child of p.
 fn is_child(members: &[[u32; 8]], p: StateId, s: StateId) -> bool
     ensures { λ r. ⌜ r ≡ isChildIn (p .0) (s .0) (now (members .entry)) ⌝ }
 {
-    let mut k = members.len();
-    while 0 < k {
-        if (members[k - 1][MemberColumn::LIST] == ListKind::CHILDREN)
-            & (members[k - 1][MemberColumn::OWNER] == p.0)
-            & (s.0 == members[k - 1][MemberColumn::VALUE])
+    let mut i = next_with(members, MemberColumn::VALUE, s.0, 0);
+    while i < members.len() {
+        if (members[i][MemberColumn::LIST] == ListKind::CHILDREN)
+            & (members[i][MemberColumn::OWNER] == p.0)
         {
             return true;
         }
-        k -= 1;
+        i = next_with(members, MemberColumn::VALUE, s.0, i + 1);
     }
     false
 }
@@ -281,11 +329,11 @@ fn invoke_for(tag: u32, invokes: &[[u32; 24]], state: StateId) -> u32
 }
 
 /// For a transition that ends: its place.
-fn place_for(tag: u32, transitions: &[[u32; 8]], t: TransitionId) -> u32
+fn place_for(kind: u32, tag: u32, transitions: &[[u32; 8]], t: TransitionId) -> u32
     requires { ⌜ length (now transitions) < 2 ^ 32 ⌝ }
-    ensures { λ r. ⌜ r ≡ numberIf (eqb tag 16) (placeOfNumber (now (transitions .entry)) (t .0)) ⌝ }
+    ensures { λ r. ⌜ r ≡ numberIf (not (isStart kind) && eqb tag 16) (placeOfNumber (now (transitions .entry)) (t .0)) ⌝ }
 {
-    if tag == Tag::TRANSITION {
+    if !(kind < Kind::END) & (tag == Tag::TRANSITION) {
         return transition_place(transitions, t) as u32;
     }
     0
@@ -413,7 +461,7 @@ pub fn see(
         entry: entry,
         kind: entry_kind(entries, entry),
         invoke: invoke_for(tag, invokes, state),
-        place: place_for(tag, transitions, transition),
+        place: place_for(kind, tag, transitions, transition),
         initial: initial_of(states, state),
         donedata: state_cell(states, state, StateColumn::DONEDATA),
         first: first,

@@ -1,26 +1,28 @@
-use Rattle.see.proofs.Scans.{child-here, child-before, child-none}
-use Rattle.see.specs.Scans.{isChildIn}
+use Rattle.see.proofs.Nexts.{with-met, with-there, child-next, child-this, child-later, child-no}
+use Rattle.see.specs.Scans.{firstWith, isChildIn}
 use Rattle.definition.specs.Rows.{sameList}
-use lib.Seq.{take-length}
-use lib.ListN.{length, take}
 use native.Mathlib.Omega.{arith}
-use mathlib.Core.Path.{_≡_, ap, _∙_}
-use Prim.Native.Nat.{_-_, _≤_}
+use mathlib.Core.Path.{_≡_, _∙_}
+use Prim.Native.Nat.{_+_, _-_, _≤_}
+use lib.ListN.{length, drop}
 use borrow.Author.Needs.{needs}
 use Rattle.see.proofs.is_child.Statement.{statement}
 use Rattle.see.proofs.is_child.Tie as tie
+use Rattle.see.proofs.is_child.Reads as reads
+use Rattle.see.proofs.is_child.Lts as lts
+use Rattle.see.proofs.next_with.Reads as next-with-reads
 
 abbrev Inv-loop : tie.InvT-loop
-Inv-loop members p s k₀ k = (k ≤ length members) × (isChildIn (p .0) (s .0) (take k members) ≡ isChildIn (p .0) (s .0) members)
+Inv-loop members p s i₀ i = ((i ≤ length members) × (firstWith 2 (s .0) (drop i members) ≡ 0)) × (isChildIn (p .0) (s .0) (drop i members) ≡ isChildIn (p .0) (s .0) members)
 
 abbrev μ-loop : tie.MeasureT-loop
-μ-loop members p s k₀ k = k
+μ-loop members p s i₀ i = length members - i
+
+next-with-requires : tie.Need-next-with-requires Inv-loop μ-loop
+next-with-requires c κs = search needs
 
 loop-holds : tie.Need-loop-holds Inv-loop μ-loop
-loop-holds c = (omega arith, ap (isChildIn (c .args .p .0) (c .args .s .0)) (take-length (c .args .members .now)))
-
-sub-if1 : tie.Need-sub-if1 Inv-loop μ-loop
-sub-if1 c = search needs
+loop-holds c = ((c .next-with .ensures .1, with-met 2 (c .before .args .s .0) (c .before .args .members .now) 0 _ (c .next-with .ensures .0)), child-next (c .before .args .members .now) 0 _ (c .before .args .p .0) (c .before .args .s .0) (c .next-with .ensures .0))
 
 mul-if1 : tie.Need-mul-if1 Inv-loop μ-loop
 mul-if1 c = search needs
@@ -31,9 +33,6 @@ index-1-if1 c = search needs
 index-2-if1 : tie.Need-index-2-if1 Inv-loop μ-loop
 index-2-if1 c = search needs
 
-sub-if1-2 : tie.Need-sub-if1-2 Inv-loop μ-loop
-sub-if1-2 c = search needs
-
 mul-if1-2 : tie.Need-mul-if1-2 Inv-loop μ-loop
 mul-if1-2 c = search needs
 
@@ -43,34 +42,25 @@ index-1-if1-2 c = search needs
 index-2-if1-2 : tie.Need-index-2-if1-2 Inv-loop μ-loop
 index-2-if1-2 c = search needs
 
-sub-if1-3 : tie.Need-sub-if1-3 Inv-loop μ-loop
-sub-if1-3 c = search needs
-
-mul-if1-3 : tie.Need-mul-if1-3 Inv-loop μ-loop
-mul-if1-3 c = search needs
-
-index-1-if1-3 : tie.Need-index-1-if1-3 Inv-loop μ-loop
-index-1-if1-3 c = search needs
-
-index-2-if1-3 : tie.Need-index-2-if1-3 Inv-loop μ-loop
-index-2-if1-3 c = search needs
-
 returns : tie.Need-returns Inv-loop μ-loop
 unfolding sameList
-returns c = child-here (c .before .before .before .before .before .before .before .before .args .p .0) (c .before .before .before .before .before .before .before .before .args .s .0) (c .before .before .before .before .before .before .before .before .args .members .now) (c .before .before .before .before .before .before .before .loop .k) (c .before .before .before .before .before .before .before .loop .k - 1) (omega arith) (omega (arith, c .before .before .before .before .before .before .before .loop .inv .0)) (c .if1 .taken) ∙ c .before .before .before .before .before .before .before .loop .inv .1
+returns c = child-this (c .before .before .before .before .before .before .before .args .p .0) (c .before .before .before .before .before .before .before .args .s .0) (c .before .before .before .before .before .before .before .args .members .now) (c .before .before .before .before .before .loop .i) (c .before .before .before .before .loop-test .taken) (with-there 2 (c .before .before .before .before .before .before .before .args .s .0) (c .before .before .before .before .before .before .before .args .members .now) (c .before .before .before .before .before .loop .i) (c .before .before .before .before .loop-test .taken) (c .before .before .before .before .before .loop .inv .0 .1)) (c .if1 .taken) ∙ c .before .before .before .before .before .loop .inv .1
 
-sub-k : tie.Need-sub-k Inv-loop μ-loop
-sub-k c = search needs
+add-next-with : tie.Need-add-next-with Inv-loop μ-loop
+add-next-with c = search needs
+
+next-with-requires-2 : tie.Need-next-with-requires-2 Inv-loop μ-loop
+next-with-requires-2 c κs = search needs
 
 loop-less : tie.Need-loop-less Inv-loop μ-loop
 loop-less c = search needs
 
 loop-again : tie.Need-loop-again Inv-loop μ-loop
 unfolding sameList
-loop-again c = (omega (arith, c .before .before .before .before .before .before .before .loop .inv .0), child-before (c .before .before .before .before .before .before .before .before .args .p .0) (c .before .before .before .before .before .before .before .before .args .s .0) (c .before .before .before .before .before .before .before .before .args .members .now) (c .before .before .before .before .before .before .before .loop .k) (c .before .before .before .before .before .before .before .loop .k - 1) (omega arith) (omega (arith, c .before .before .before .before .before .before .before .loop .inv .0)) (c .if1 .left) ∙ c .before .before .before .before .before .before .before .loop .inv .1)
+loop-again c = ((c .next-with2 .ensures .1, with-met 2 (c .before .before .before .before .before .before .before .before .args .s .0) (c .before .before .before .before .before .before .before .before .args .members .now) (c .before .before .before .before .before .before .loop .i + 1) _ (c .next-with2 .ensures .0)), child-next (c .before .before .before .before .before .before .before .before .args .members .now) (c .before .before .before .before .before .before .loop .i + 1) _ (c .before .before .before .before .before .before .before .before .args .p .0) (c .before .before .before .before .before .before .before .before .args .s .0) (c .next-with2 .ensures .0) ∙ child-later (c .before .before .before .before .before .before .before .before .args .p .0) (c .before .before .before .before .before .before .before .before .args .s .0) (c .before .before .before .before .before .before .before .before .args .members .now) (c .before .before .before .before .before .before .loop .i) (c .before .before .before .before .before .loop-test .taken) (c .before .if1 .left) ∙ c .before .before .before .before .before .before .loop .inv .1)
 
 returns-2 : tie.Need-returns-2 Inv-loop μ-loop
-returns-2 c = child-none (c .before .before .args .p .0) (c .before .before .args .s .0) (c .before .before .args .members .now) (c .before .loop .k) (omega arith) ∙ c .before .loop .inv .1
+returns-2 c = child-no (c .before .before .before .args .p .0) (c .before .before .before .args .s .0) (c .before .before .before .args .members .now) (c .before .loop .i) (c .loop-test .left) ∙ c .before .loop .inv .1
 
 pub is-child-spec : {M : Type 1} → statement M
 is-child-spec =
@@ -78,21 +68,17 @@ is-child-spec =
     (tie.spec
     Inv-loop
     μ-loop
+    next-with-requires
     loop-holds
-    sub-if1
     mul-if1
     index-1-if1
     index-2-if1
-    sub-if1-2
     mul-if1-2
     index-1-if1-2
     index-2-if1-2
-    sub-if1-3
-    mul-if1-3
-    index-1-if1-3
-    index-2-if1-3
     returns
-    sub-k
+    add-next-with
+    next-with-requires-2
     loop-less
     loop-again
     returns-2)
