@@ -15,12 +15,15 @@ use plain::bytes_of;
 use plain::index;
 use plan::Heard;
 ghost use mathlib.Core.Path.{_≡_};
+ghost use mathlib.Core.Bool.{true};
 ghost use mathlib.Core.List.{[]};
 ghost use Prim.Native.Nat.{_<_, _≤_};
 ghost use lib.ListN.{length, getD};
 ghost use Rattle.definition.specs.Limits.{limits01};
 ghost use Rattle.definition.specs.Rows.{num, lastOf};
 ghost use Rattle.definition.specs.Rows as R;
+ghost use Rattle.definition.specs.Look.{nameCells};
+ghost use Rattle.definition.specs.Rules.{namesLead};
 ghost use Rattle.plain.specs.Plain.{parsedIn};
 ghost use Rattle.look.specs.Looked.{lookedIn};
 
@@ -70,6 +73,7 @@ pub fn look(
 ) -> Looked
     requires { ⌜ (length (now states) ≤ limits01 .states) × (length (now datums) ≤ limits01 .datums) ⌝ }
     requires { ⌜ position .names ≤ limits01 .drawn ⌝ }
+    requires { ⌜ namesLead (now text) (nameCells (now states)) 0 (nameCells (now states)) ≡ true ⌝ }
     ensures { λ r. ⌜ r ≡ lookedIn (now (chart .entry)) (now (states .entry)) (now (datums .entry)) (now (opened .entry)) (now («open_names» .entry)) (now (text .entry)) position (parsedIn (now (src .entry)) p) ⌝ }
 {
     let drawn = position.names;

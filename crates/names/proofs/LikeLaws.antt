@@ -115,7 +115,7 @@ module _ (t w : List ℕ) (start b l : ℕ) (tail : List ℕ) (E : Ending t w st
       let inside : suc off < length tail = omega (arith, k, E .at, ap length (E .rest), length-drop start t) in
       sym (ends-both tail (suc off) b l inside last (λ z. omega (arith, z))) ∙ eq-eqb (getD tail (suc off - 1) 0) b before
 
-  like-not : (c : Cell) → endsSo tail (c .at) b l ≡ false → same (textAt t c) w ≡ false
+  pub like-not : (c : Cell) → endsSo tail (c .at) b l ≡ false → same (textAt t c) w ≡ false
   like-not c e = by (same (textAt t c) w) (λ q. other (sym (ends-like (c .at) (c .len) (same-eq (textAt t c) w q)) ∙ e)) (λ q. q)
     where
       other : _≡_ {A = Bool} true false → same (textAt t c) w ≡ false

@@ -8,7 +8,7 @@ use lib.Dec.{eqb, ltb}
 use Rattle.definition.specs.Text.{same, Piece, pieces, isSeparator, stateWords, generatedName}
 use Rattle.definition.specs.Elements.{tag, key, namesState}
 use Rattle.definition.specs.Event.{kind}
-use Rattle.definition.specs.Rows.{Cell}
+use Rattle.definition.specs.Rows.{Table, state, num, Cell, cellAt, textAt}
 use Rattle.definition.specs.Look.{Load, hasLoad, findName}
 use Rattle.definition.proofs.Names.{Fits}
 use Rattle.plain.specs.Plain.{Parsed}
@@ -32,6 +32,17 @@ unfoldable pub firstLike : List ℕ → ℕ → ℕ → List Cell → ℕ
 unfolding endsSo
 firstLike t before last [] = 0
 firstLike t before last (c ∷ cs) = elim (endsSo t (c .at) before last) [ true ↦ 0 | false ↦ suc (firstLike t before last cs) ]
+
+-- The last of the first n rows whose name may end so, from 1; 0 if none may.
+unfoldable pub lastLike : List ℕ → ℕ → ℕ → Table → ℕ → ℕ
+unfolding endsSo
+lastLike t before last rows zero = 0
+lastLike t before last rows (suc n) = elim (endsSo t (num (getD rows n []) (state .name)) before last) [ true ↦ suc n | false ↦ lastLike t before last rows n ]
+
+-- Whether row i is one of the first n and its name is w.
+unfoldable pub isNamed : List ℕ → Table → ℕ → List ℕ → ℕ → Bool
+unfolding same textAt cellAt
+isNamed t rows n w i = elim (ltb i n) [ true ↦ same (textAt t (cellAt (getD rows i []) (state .name))) w | false ↦ false ]
 
 -- The words of a value from a place on.
 abbrev pub wordsFrom : List ℕ → ℕ → List Piece

@@ -26,7 +26,7 @@ ghost use Rattle.definition.specs.Look.{findName, nameCells};
 ghost use Rattle.definition.specs.Rules.{namesLead};
 ghost use Rattle.plain.specs.Plain.{slotsOf, parsedIn};
 ghost use Rattle.plain.specs.Keyed.{keyedOf};
-ghost use Rattle.names.specs.Names.{endsSo, firstLike, wordsFrom, occurs, newIf, firstNonzero, counted, stateNames, namesIn};
+ghost use Rattle.names.specs.Names.{endsSo, firstLike, lastLike, isNamed, wordsFrom, occurs, newIf, firstNonzero, counted, stateNames, namesIn};
 
 // Whether the text of a cell is w, byte by byte.
 pub fn is_at(text: &[u8], at: u32, len: u32, w: &[u8]) -> bool
@@ -130,28 +130,82 @@ pub fn find_state(states: &[[u32; 24]], count: usize, text: &[u8], w: &[u8]) -> 
     find_long(states, count, text, w)
 }
 
-// The same for names that are distinct, as they are where question 2 is yes: then any row that has the name is the first. The row `near` is looked at first.
-pub fn find_apart(
-    states: &[[u32; 24]],
-    count: usize,
-    text: &[u8],
-    w: &[u8],
-    near: usize,
-) -> usize
+// Whether `near` is one of the first `count` rows and its name is w.
+fn is_row(states: &[[u32; 24]], count: usize, text: &[u8], w: &[u8], near: usize) -> bool
+    requires { ⌜ count ≤ length (now states) ⌝ }
+    ensures { λ r. ⌜ r ≡ isNamed (now (text .entry)) (now (states .entry)) count (now (w .entry)) near ⌝ }
+{
+    if count <= near {
+        return false;
+    }
+    let at = states[near][StateColumn::NAME];
+    let len = states[near][StateColumn::NAME_LENGTH];
+    is_at(text, at, len, w)
+}
+
+// The last of the first `count` rows whose name may end so, from 1; 0 if there is none.
+fn last_like(states: &[[u32; 24]], count: usize, tail: &[u8], before: u8, last: u8) -> usize
+    requires { ⌜ count ≤ length (now states) ⌝ }
+    ensures { λ r. ⌜ r ≡ lastLike (now (tail .entry)) before last (now (states .entry)) count ⌝ }
+    ensures { λ r. ⌜ r ≤ count ⌝ }
+{
+    let mut k = count;
+    while 0 < k {
+        if ends_so(tail, index(states[k - 1][StateColumn::NAME]), before, last) {
+            return k;
+        }
+        k -= 1;
+    }
+    0
+}
+
+// For a w of two bytes and more, among names that are distinct: from the last row down, since a name that comes again was often new not long ago.
+fn find_last(states: &[[u32; 24]], count: usize, text: &[u8], w: &[u8]) -> usize
+    requires { ⌜ count ≤ length (now states) ⌝ }
+    requires { ⌜ (2 ≤ length (now w)) × (length (now w) ≤ length (now text)) ⌝ }
+    requires { ⌜ namesLead (now text) (nameCells (take count (now states))) 0 (nameCells (take count (now states))) ≡ true ⌝ }
+    ensures { λ r. ⌜ r ≡ findName (now (text .entry)) (nameCells (take count (now (states .entry)))) (now (w .entry)) ⌝ }
+    ensures { λ r. ⌜ r ≤ count ⌝ }
+{
+    let start = w.len() - 2;
+    let before = w[start];
+    let last = w[start + 1];
+    let tail = &text[start..];
+    let mut k = last_like(states, count, tail, before, last);
+    while 0 < k {
+        let at = states[k - 1][StateColumn::NAME];
+        let len = states[k - 1][StateColumn::NAME_LENGTH];
+        if is_at(text, at, len, w) {
+            return k - 1;
+        }
+        k = last_like(states, k - 1, tail, before, last);
+    }
+    count
+}
+
+// As `find_state`, for names that are distinct, as they are where question 2 is yes: then any row that has the name is the first. The row `near` is looked at first.
+pub fn find_apart(states: &[[u32; 24]], count: usize, text: &[u8], w: &[u8], near: usize) -> usize
     requires { ⌜ count ≤ length (now states) ⌝ }
     requires { ⌜ namesLead (now text) (nameCells (take count (now states))) 0 (nameCells (take count (now states))) ≡ true ⌝ }
     ensures { λ r. ⌜ r ≡ findName (now (text .entry)) (nameCells (take count (now (states .entry)))) (now (w .entry)) ⌝ }
     ensures { λ r. ⌜ r ≤ count ⌝ }
 {
-    find_state(states, count, text, w)
+    if is_row(states, count, text, w, near) {
+        return near;
+    }
+    if (w.len() < 2) | (text.len() < w.len()) {
+        return find_short(states, count, text, w);
+    }
+    find_last(states, count, text, w)
 }
 
 // Of all rows.
-fn find_name(states: &[[u32; 24]], text: &[u8], w: &[u8]) -> usize
+fn find_name(states: &[[u32; 24]], text: &[u8], w: &[u8], near: usize) -> usize
+    requires { ⌜ namesLead (now text) (nameCells (now states)) 0 (nameCells (now states)) ≡ true ⌝ }
     ensures { λ r. ⌜ r ≡ findName (now (text .entry)) (nameCells (now (states .entry))) (now (w .entry)) ⌝ }
     ensures { λ r. ⌜ r ≤ length (now (states .entry)) ⌝ }
 {
-    find_state(states, states.len(), text, w)
+    find_apart(states, states.len(), text, w, near)
 }
 
 // Whether w is one of the words of v from `from` on.
@@ -205,8 +259,9 @@ fn first(one: usize, other: usize) -> usize
     one
 }
 
-// The words of v.
+// The words of v. States that are listed together are often neighbours, so the row after the last one found is looked at first.
 fn count_names(states: &[[u32; 24]], text: &[u8], v: &[u8]) -> Names
+    requires { ⌜ namesLead (now text) (nameCells (now states)) 0 (nameCells (now states)) ≡ true ⌝ }
     ensures { λ r. ⌜ r ≡ counted (now (text .entry)) (nameCells (now (states .entry))) (stateWords (now (v .entry))) ⌝ }
     ensures { λ r. ⌜ (r .refs ≤ length (now (v .entry))) × (r .new ≤ length (now (v .entry))) ⌝ }
 {
@@ -214,6 +269,7 @@ fn count_names(states: &[[u32; 24]], text: &[u8], v: &[u8]) -> Names
     let mut own = 0;
     let mut refs = 0;
     let mut new = 0;
+    let mut near = 0;
     let mut at = 0;
     while at < v.len() {
         let next = next_state_word(v, at);
@@ -223,8 +279,9 @@ fn count_names(states: &[[u32; 24]], text: &[u8], v: &[u8]) -> Names
             return Names { own, refs, new };
         }
         let w = &v[start..end];
-        let k = find_name(states, text, w);
-        own = first(own, k + 1);
+        let k = find_name(states, text, w, near);
+        near = k + 1;
+        own = first(own, near);
         new += new_if(k < count, w, v, end);
         refs += 1;
         at = end;
@@ -235,10 +292,11 @@ fn count_names(states: &[[u32; 24]], text: &[u8], v: &[u8]) -> Names
 // The element's own name, and the words of v.
 fn count_with(states: &[[u32; 24]], text: &[u8], own: &[u8], v: &[u8]) -> Names
     requires { ⌜ length (now v) < 65536 ⌝ }
+    requires { ⌜ namesLead (now text) (nameCells (now states)) 0 (nameCells (now states)) ≡ true ⌝ }
     ensures { λ r. ⌜ r ≡ counted (now (text .entry)) (nameCells (now (states .entry))) (record { off = 0; word = now (own .entry) } ∷ stateWords (now (v .entry))) ⌝ }
 {
     let n = count_names(states, text, v);
-    let k = find_name(states, text, own);
+    let k = find_name(states, text, own, 0);
     let one = new_if(k < states.len(), own, v, 0);
     let refs = n.refs;
     let new = n.new;
@@ -259,6 +317,7 @@ fn look_state(
     drawn: u32,
 ) -> Names
     requires { ⌜ (drawn ≤ limits01 .drawn) × (ix ≡ keyedOf (slotsOf p)) ⌝ }
+    requires { ⌜ namesLead (now text) (nameCells (now states)) 0 (nameCells (now states)) ≡ true ⌝ }
     ensures { λ r. ⌜ r ≡ counted (now (text .entry)) (nameCells (now (states .entry))) (stateNames drawn (parsedIn (now (src .entry)) p .values)) ⌝ }
 {
     let initial = value(src, ix, Key::INITIAL);
@@ -291,6 +350,7 @@ pub fn look_names(
     drawn: u32,
 ) -> Names
     requires { ⌜ (drawn ≤ limits01 .drawn) × (ix ≡ keyedOf (slotsOf p)) ⌝ }
+    requires { ⌜ namesLead (now text) (nameCells (now states)) 0 (nameCells (now states)) ≡ true ⌝ }
     ensures { λ r. ⌜ r ≡ namesIn (now (text .entry)) (nameCells (now (states .entry))) drawn (parsedIn (now (src .entry)) p) ⌝ }
 {
     if p.kind == Kind::END {

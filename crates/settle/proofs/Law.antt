@@ -1,6 +1,6 @@
 -- What is known on the way: the look, what is seen and the decision are the definition's, and so is the number.
 use Prim.Native.Nat.{ℕ, zero, suc, _+_, _≤_, _<_, _^_}
-use mathlib.Core.Path.{_≡_, refl, sym, ap, _∙_, subst}
+use mathlib.Core.Path.{_≡_, refl, sym, ap, ap₂, _∙_, subst}
 use mathlib.Core.Bool.{Bool, true, false}
 use mathlib.Core.List.{List, [], _∷_}
 use mathlib.Core.Option.{some}
@@ -11,12 +11,14 @@ use Rattle.definition.specs.declared.Position.{Position}
 use Rattle.definition.specs.Limits.{limits01}
 use Rattle.definition.specs.Rows.{Row, Table, Cell, cellAt, Numbers, Store, tableOf}
 use Rattle.definition.specs.Event.{Event, inForm, keysDiffer}
-use Rattle.definition.specs.Look.{Look, look, textAfter}
+use Rattle.definition.specs.Look.{Look, look, textAfter, nameCells}
+use Rattle.definition.specs.Rules.{namesLead}
 use Rattle.definition.specs.Change.{entered}
 use Rattle.definition.specs.States.{ownState}
 use Rattle.definition.specs.Reader.{Lent, storeOf, taken, counts, positionOf, rowsIn, Reply, replyTo, settled, Verdict, accept, reject, decided, questions, firstNo}
 use Rattle.definition.proofs.Base.{All}
 use Rattle.kept.proofs.Base.{false-is-true}
+use Rattle.kept.proofs.Facts.{rules-from}
 use Rattle.definition.proofs.Names.{Fits}
 use Rattle.names.specs.Names.{Inside}
 use Rattle.plain.specs.Plain.{Parsed, parsedOf}
@@ -159,9 +161,14 @@ module _ (p : Position) (a b c d f h i j k o y r : Table) (tx : List ℕ) (v : P
         }
 
     -- WHAT `look` REQUIRES.
-    pub few-enough : (b′ i′ : Table) → b′ ≡ take (p .states) b → i′ ≡ take (p .datums) i → ((length b′ ≤ limits01 .states) × (length i′ ≤ limits01 .datums)) × (p .names ≤ limits01 .drawn)
+    pub few-enough : (b′ i′ : Table) (t′ : List ℕ) → b′ ≡ take (p .states) b → i′ ≡ take (p .datums) i → t′ ≡ take (p .used) tx
+        → ((length b′ ≤ limits01 .states) × (length i′ ≤ limits01 .datums)) × ((p .names ≤ limits01 .drawn) × (namesLead t′ (nameCells b′) 0 (nameCells b′) ≡ true))
     unfolding storeOf taken counts
-    few-enough b′ i′ eb ei = ((omega (arith, ap length eb, F .states), omega (arith, ap length ei, F .datums)), F .names)
+    few-enough b′ i′ t′ eb ei et =
+        let lead : namesLead (s .text) (nameCells (tableOf n 1)) 0 (nameCells (tableOf n 1)) ≡ true = rules-from limits01 s (Z .rules) .1 .names in (
+          (omega (arith, ap length eb, F .states), omega (arith, ap length ei, F .datums)),
+          (F .names, ap₂ (λ (u : List ℕ) (rs : Table). namesLead u (nameCells rs) 0 (nameCells rs)) et eb ∙ lead),
+        )
 
     -- WHAT `see` REQUIRES.
     pub short : (c′ f′ h′ r′ : Table) → c′ ≡ take (p .transitions) c → f′ ≡ take (p .entries) f → h′ ≡ take (p .invokes) h → r′ ≡ take (p .«open_regions») r → Short c′ f′ h′ r′

@@ -62,7 +62,7 @@ is-made-requires : tie.Need-is-made-requires
 is-made-requires c κs = search needs
 
 charge-requires : tie.Need-charge-requires
-charge-requires c κs = ((c .before .before .before .before .before .before .before .before .before .before .before .before .before .before .pre .1, c .is-made .ensures), (c .before .before .before .before .before .before .before .before .before .before .before .index .ensures .1 .0, c .before .before .before .before .before .before .before .before .before .before .before .index .ensures .1 .1))
+charge-requires c κs = ((c .before .before .before .before .before .before .before .before .before .before .before .before .before .before .pre .1 .0, c .is-made .ensures), (c .before .before .before .before .before .before .before .before .before .before .before .index .ensures .1 .0, c .before .before .before .before .before .before .before .before .before .before .before .index .ensures .1 .1))
 
 returns : tie.Need-returns
 returns c = looked-is (c .before .before .before .before .before .before .before .before .before .before .before .before .before .before .before .args .chart .now) (c .before .before .before .before .before .before .before .before .before .before .before .before .before .before .before .args .states .now) (c .before .before .before .before .before .before .before .before .before .before .before .before .before .before .before .args .datums .now) (c .before .before .before .before .before .before .before .before .before .before .before .before .before .before .before .args .opened .now) (c .before .before .before .before .before .before .before .before .before .before .before .before .before .before .before .args .open-names .now) (c .before .before .before .before .before .before .before .before .before .before .before .before .before .before .before .args .text .now) (c .before .before .before .before .before .before .before .before .before .before .before .before .before .before .before .args .position) (c .before .before .before .before .before .before .before .before .before .before .before .before .before .before .before .args .src .now) (c .before .before .before .before .before .before .before .before .before .before .before .before .before .before .before .args .p) _ (c .before .before .before .before .before .before .before .before .before .before .look-names .ensures) _ (c .before .before .before .before .before .before .before .before .before .inside .ensures) _ (c .before .before .before .before .before .before .before .before .found .ensures) _ (c .before .before .before .before .before .before .before .heard .ensures) _ (c .before .before .before .before .before .before .bytes-of .ensures .0) _ (c .before .before .before .before .before .is-innermost .ensures) _ (c .before .before .before .before .inside2 .ensures) _ (c .before .before .before .root-of .ensures) _ (c .before .before .first-no .ensures) _ (c .before .is-made .ensures) _ (c .charge .ensures .0)

@@ -15,10 +15,10 @@ use Rattle.names.proofs.new_if.Reads as new-if-reads
 use Rattle.words.proofs.next_state_word.Reads as next-state-word-reads
 
 abbrev Inv-loop : tie.InvT-loop
-Inv-loop states text v count own₀ refs₀ new₀ at₀ own refs new at = Counting text (nameCells states) v own refs new at × (count ≡ length states)
+Inv-loop states text v count own₀ refs₀ new₀ near₀ at₀ own refs new near at = Counting text (nameCells states) v own refs new at × (count ≡ length states)
 
 abbrev μ-loop : tie.MeasureT-loop
-μ-loop states text v count own₀ refs₀ new₀ at₀ own refs new at = length v - at
+μ-loop states text v count own₀ refs₀ new₀ near₀ at₀ own refs new near at = length v - at
 
 loop-holds : tie.Need-loop-holds Inv-loop μ-loop
 loop-holds c = (counting-start (c .before .before .args .text .now) (nameCells (c .before .before .args .states .now)) (c .before .before .args .v .now), refl)
@@ -41,8 +41,8 @@ part-w-end c = omega (arith, word-lies (c .before .before .before .before .befor
 find-name-requires : tie.Need-find-name-requires Inv-loop μ-loop
 find-name-requires c κs = search needs
 
-add-first : tie.Need-add-first Inv-loop μ-loop
-add-first c = search needs
+add-near : tie.Need-add-near Inv-loop μ-loop
+add-near c = search needs
 
 first-requires : tie.Need-first-requires Inv-loop μ-loop
 first-requires c κs = search needs
@@ -78,7 +78,7 @@ count-names-spec =
     part-w-start
     part-w-end
     find-name-requires
-    add-first
+    add-near
     first-requires
     new-if-requires
     add-new

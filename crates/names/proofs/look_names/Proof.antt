@@ -39,7 +39,7 @@ count-names-requires c κs = search needs
 
 returns-3 : tie.Need-returns-3
 unfolding parsedIn
-returns-3 c = names-transition (c .before .before .before .before .before .before .before .before .before .before .args .drawn) (parsedIn (c .before .before .before .before .before .before .before .before .before .before .args .src .now) (c .before .before .before .before .before .before .before .before .before .before .args .p)) (c .before .before .before .before .before .before .before .before .before .before .args .text .now) (nameCells (c .before .before .before .before .before .before .before .before .before .before .args .states .now)) _ (c .before .before .before .before .before .before .if1 .left) _ (c .before .before .before .before .before .names-state .ensures) (c .before .before .before .before .if2 .left) (c .before .before .if3 .taken) _ (keyed-value (c .before .before .before .before .before .before .before .before .before .before .args .src .now) 17 (omega arith) (slotsOf (c .before .before .before .before .before .before .before .before .before .before .args .p)) _ (c .before .before .before .before .before .before .before .before .before .before .pre .1) _ (c .before .value .ensures .0)) (c .count-names .ensures .0)
+returns-3 c = names-transition (c .before .before .before .before .before .before .before .before .before .before .args .drawn) (parsedIn (c .before .before .before .before .before .before .before .before .before .before .args .src .now) (c .before .before .before .before .before .before .before .before .before .before .args .p)) (c .before .before .before .before .before .before .before .before .before .before .args .text .now) (nameCells (c .before .before .before .before .before .before .before .before .before .before .args .states .now)) _ (c .before .before .before .before .before .before .if1 .left) _ (c .before .before .before .before .before .names-state .ensures) (c .before .before .before .before .if2 .left) (c .before .before .if3 .taken) _ (keyed-value (c .before .before .before .before .before .before .before .before .before .before .args .src .now) 17 (omega arith) (slotsOf (c .before .before .before .before .before .before .before .before .before .before .args .p)) _ (c .before .before .before .before .before .before .before .before .before .before .pre .0 .1) _ (c .before .value .ensures .0)) (c .count-names .ensures .0)
 
 none-requires-2 : tie.Need-none-requires-2
 none-requires-2 c κs = search needs

@@ -33,7 +33,7 @@ count-with-requires c κs = search needs
 
 returns : tie.Need-returns
 unfolding parsedIn
-returns c = own-given (c .before .before .before .before .before .before .before .args .text .now) (nameCells (c .before .before .before .before .before .before .before .args .states .now)) (c .before .before .before .before .before .before .before .args .drawn) (loadsIn (c .before .before .before .before .before .before .before .args .src .now) (slotsOf (c .before .before .before .before .before .before .before .args .p))) _ (marked-has (c .before .before .before .before .before .before .before .args .src .now) 1 (omega arith) (slotsOf (c .before .before .before .before .before .before .before .args .p)) _ (c .before .before .before .before .before .before .before .pre .1) _ (c .before .before .before .has .ensures)) _ (keyed-value (c .before .before .before .before .before .before .before .args .src .now) 2 (omega arith) (slotsOf (c .before .before .before .before .before .before .before .args .p)) _ (c .before .before .before .before .before .before .before .pre .1) _ (c .before .before .before .before .value .ensures .0)) _ (c .before .before .if1 .taken) _ (keyed-value (c .before .before .before .before .before .before .before .args .src .now) 1 (omega arith) (slotsOf (c .before .before .before .before .before .before .before .args .p)) _ (c .before .before .before .before .before .before .before .pre .1) _ (c .before .value2 .ensures .0)) (c .count-with .ensures)
+returns c = own-given (c .before .before .before .before .before .before .before .args .text .now) (nameCells (c .before .before .before .before .before .before .before .args .states .now)) (c .before .before .before .before .before .before .before .args .drawn) (loadsIn (c .before .before .before .before .before .before .before .args .src .now) (slotsOf (c .before .before .before .before .before .before .before .args .p))) _ (marked-has (c .before .before .before .before .before .before .before .args .src .now) 1 (omega arith) (slotsOf (c .before .before .before .before .before .before .before .args .p)) _ (c .before .before .before .before .before .before .before .pre .0 .1) _ (c .before .before .before .has .ensures)) _ (keyed-value (c .before .before .before .before .before .before .before .args .src .now) 2 (omega arith) (slotsOf (c .before .before .before .before .before .before .before .args .p)) _ (c .before .before .before .before .before .before .before .pre .0 .1) _ (c .before .before .before .before .value .ensures .0)) _ (c .before .before .if1 .taken) _ (keyed-value (c .before .before .before .before .before .before .before .args .src .now) 1 (omega arith) (slotsOf (c .before .before .before .before .before .before .before .args .p)) _ (c .before .before .before .before .before .before .before .pre .0 .1) _ (c .before .value2 .ensures .0)) (c .count-with .ensures)
 
 slice-aggregate-put-generated : tie.Need-slice-aggregate-put-generated
 slice-aggregate-put-generated c = search needs
@@ -58,7 +58,7 @@ count-with-requires-2 c κs = search needs
 
 returns-2 : tie.Need-returns-2
 unfolding parsedIn
-returns-2 c = own-made (c .before .before .before .before .before .before .before .before .before .before .before .args .text .now) (nameCells (c .before .before .before .before .before .before .before .before .before .before .before .args .states .now)) (c .before .before .before .before .before .before .before .before .before .before .before .args .drawn) (loadsIn (c .before .before .before .before .before .before .before .before .before .before .before .args .src .now) (slotsOf (c .before .before .before .before .before .before .before .before .before .before .before .args .p))) _ (marked-has (c .before .before .before .before .before .before .before .before .before .before .before .args .src .now) 1 (omega arith) (slotsOf (c .before .before .before .before .before .before .before .before .before .before .before .args .p)) _ (c .before .before .before .before .before .before .before .before .before .before .before .pre .1) _ (c .before .before .before .before .before .before .before .has .ensures)) _ (keyed-value (c .before .before .before .before .before .before .before .before .before .before .before .args .src .now) 2 (omega arith) (slotsOf (c .before .before .before .before .before .before .before .before .before .before .before .args .p)) _ (c .before .before .before .before .before .before .before .before .before .before .before .pre .1) _ (c .before .before .before .before .before .before .before .before .value .ensures .0)) _ (c .before .before .before .before .before .before .if1 .left) _ (made-name (c .before .before .before .before .before .before .before .before .before .before .before .args .drawn + 1) (replicate 24 0) refl (c .before .before .before .before .put-generated .result) (c .before .before .before .before .put-generated .ensures .0) _ (c .before .before .before .before .put-generated .ensures .1) ∙ ap generatedName (add-one (c .before .before .before .before .before .before .before .before .before .before .before .args .drawn))) (c .count-with2 .ensures)
+returns-2 c = own-made (c .before .before .before .before .before .before .before .before .before .before .before .args .text .now) (nameCells (c .before .before .before .before .before .before .before .before .before .before .before .args .states .now)) (c .before .before .before .before .before .before .before .before .before .before .before .args .drawn) (loadsIn (c .before .before .before .before .before .before .before .before .before .before .before .args .src .now) (slotsOf (c .before .before .before .before .before .before .before .before .before .before .before .args .p))) _ (marked-has (c .before .before .before .before .before .before .before .before .before .before .before .args .src .now) 1 (omega arith) (slotsOf (c .before .before .before .before .before .before .before .before .before .before .before .args .p)) _ (c .before .before .before .before .before .before .before .before .before .before .before .pre .0 .1) _ (c .before .before .before .before .before .before .before .has .ensures)) _ (keyed-value (c .before .before .before .before .before .before .before .before .before .before .before .args .src .now) 2 (omega arith) (slotsOf (c .before .before .before .before .before .before .before .before .before .before .before .args .p)) _ (c .before .before .before .before .before .before .before .before .before .before .before .pre .0 .1) _ (c .before .before .before .before .before .before .before .before .value .ensures .0)) _ (c .before .before .before .before .before .before .if1 .left) _ (made-name (c .before .before .before .before .before .before .before .before .before .before .before .args .drawn + 1) (replicate 24 0) refl (c .before .before .before .before .put-generated .result) (c .before .before .before .before .put-generated .ensures .0) _ (c .before .before .before .before .put-generated .ensures .1) ∙ ap generatedName (add-one (c .before .before .before .before .before .before .before .before .before .before .before .args .drawn))) (c .count-with2 .ensures)
 
 pub look-state-spec : {M : Type 1} → statement M
 look-state-spec =

@@ -42,7 +42,7 @@ first-bytes-requires c κs = search needs
 
 -- src/lib.rt:92:9
 look-requires : tie.Need-look-requires
-look-requires c κs = few-enough (c .before .before .before .before .before .before .before .before .args .p) (c .before .before .before .before .before .before .before .before .args .chart .now) (c .before .before .before .before .before .before .before .before .args .states .now) (c .before .before .before .before .before .before .before .before .args .transitions .now) (c .before .before .before .before .before .before .before .before .args .regions .now) (c .before .before .before .before .before .before .before .before .args .entries .now) (c .before .before .before .before .before .before .before .before .args .invokes .now) (c .before .before .before .before .before .before .before .before .args .datums .now) (c .before .before .before .before .before .before .before .before .args .parameters .now) (c .before .before .before .before .before .before .before .before .args .members .now) (c .before .before .before .before .before .before .before .before .args .opened .now) (c .before .before .before .before .before .before .before .before .args .names .now) (c .before .before .before .before .before .before .before .before .args .pending .now) (c .before .before .before .before .before .before .before .before .args .text .now) (parsedIn (c .before .before .before .before .before .before .before .before .args .src .now) (c .before .before .before .before .before .before .before .before .args .pl)) (c .before .before .before .before .before .before .before .before .pre) _ _ (c .before .before .before .before .first-242 .ensures) (c .before .before .first-82 .ensures)
+look-requires c κs = few-enough (c .before .before .before .before .before .before .before .before .args .p) (c .before .before .before .before .before .before .before .before .args .chart .now) (c .before .before .before .before .before .before .before .before .args .states .now) (c .before .before .before .before .before .before .before .before .args .transitions .now) (c .before .before .before .before .before .before .before .before .args .regions .now) (c .before .before .before .before .before .before .before .before .args .entries .now) (c .before .before .before .before .before .before .before .before .args .invokes .now) (c .before .before .before .before .before .before .before .before .args .datums .now) (c .before .before .before .before .before .before .before .before .args .parameters .now) (c .before .before .before .before .before .before .before .before .args .members .now) (c .before .before .before .before .before .before .before .before .args .opened .now) (c .before .before .before .before .before .before .before .before .args .names .now) (c .before .before .before .before .before .before .before .before .args .pending .now) (c .before .before .before .before .before .before .before .before .args .text .now) (parsedIn (c .before .before .before .before .before .before .before .before .args .src .now) (c .before .before .before .before .before .before .before .before .args .pl)) (c .before .before .before .before .before .before .before .before .pre) _ _ _ (c .before .before .before .before .first-242 .ensures) (c .before .before .first-82 .ensures) (c .first-bytes .ensures)
 
 -- src/lib.rt:110:9
 first-8-requires-3 : tie.Need-first-8-requires-3
