@@ -1,3 +1,4 @@
 pub mod Laws
+pub mod ApartLaws
 pub mod LoopLaws
 pub mod NameLaws

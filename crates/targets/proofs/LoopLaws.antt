@@ -11,6 +11,7 @@ use lib.Seq.{length-take-le, drop-drop, take-take, take-nil}
 use Rattle.definition.specs.Text.{bytesAt, Piece, pieces, wordsBy, isSeparator, stateWordsAt}
 use Rattle.definition.specs.Rows.{Table, Cell}
 use Rattle.definition.specs.Look.{findName, nameCells, pieceCell, enter, resolve}
+use Rattle.definition.specs.Rules.{namesLead}
 use Rattle.definition.specs.Reader.{over}
 use Rattle.words.specs.declared.Word.{Word}
 use Rattle.words.specs.Next.{nextWord, moved}
@@ -20,6 +21,7 @@ use Rattle.names.specs.Names.{wordsFrom}
 use Rattle.names.proofs.Laws.{find-le, cells-length, words-next, words-none, words-end, word-lies}
 use Rattle.targets.specs.Enter.{placedRow, countAfter, enterRow, enterAll, memberRow, namesAt, Room, Entered}
 use Rattle.targets.proofs.Laws.{Partly, partly-start, partly-put, partly-took, partly-end, partly-length, cells-enter, all-grows, enter-size, enter-partly}
+use Rattle.targets.proofs.ApartLaws.{apart-entered}
 
 -- ---- the value's words in the text
 
@@ -58,6 +60,7 @@ pub record Entering (st ms : Table) (t v : List ℕ) (off owner : ℕ) (rows mem
   pub names : enterAll t (take n st′) (rest off v at) ≡ rows
   pub refs : take m ms′ ++ map (memberRow 6 owner) (resolve t (nameCells (take n st′)) (rest off v at) .refs) ≡ members
   pub left : m + length (rest off v at) ≡ total
+  pub apart : namesLead t (nameCells (take n st′)) 0 (nameCells (take n st′)) ≡ true
 
 module _ (st ms : Table) (t : List ℕ) (count used off len owner : ℕ) (room₁ : Room st ms t count used off len) where
   abbrev v : List ℕ
@@ -88,6 +91,7 @@ module _ (st ms : Table) (t : List ℕ) (count used off len owner : ℕ) (room�
         names = ap (enterAll t (take count st)) (all-words t off len);
         refs = ap (λ (ps : List Piece). take used ms ++ map (memberRow 6 owner) (resolve t (nameCells (take count st)) ps .refs)) (all-words t off len);
         left = ap (λ (ps : List Piece). used + length ps) (all-words t off len);
+        apart = room₁ .apart;
       }
 
   module _ (st′ ms′ : Table) (n m at : ℕ) (E : State st′ ms′ n m at) where
@@ -134,12 +138,15 @@ module _ (st ms : Table) (t : List ℕ) (count used off len owner : ℕ) (room�
       found : findName t (nameCells (take n st′)) here ≡ k
       found = ap (findName t (nameCells (take n st′))) bytes
 
+      size : length word ≡ x .end - x .start
+      size = length-take-le (x .end - x .start) (drop (x .start) v) (omega (arith, length-drop (x .start) v, lies .1))
+
       cell : record { at = off + x .start + 1; len = x .end - x .start } ≡ pieceCell piece
       unfolding pieceCell
-      cell =
-          let q : length word ≡ x .end - x .start = length-take-le (x .end - x .start) (drop (x .start) v) (omega (arith, length-drop (x .start) v, lies .1)) in
-          let a : off + x .start + 1 ≡ suc (off + x .start) = omega arith in
-          rw (a, q)
+      cell = let a : off + x .start + 1 ≡ suc (off + x .start) = omega arith in rw (a, size)
+
+      spelled : bytesAt t (record { off = off + x .start; len = length word }) ≡ word
+      spelled = ap (λ (j : ℕ). bytesAt t (record { off = off + x .start; len = j })) size ∙ bytes
 
       all : enterAll t (enterRow (take n st′) k (pieceCell piece)) (rest off v (x .end)) ≡ rows
       unfolding enterAll
@@ -193,6 +200,7 @@ module _ (st ms : Table) (t : List ℕ) (count used off len owner : ℕ) (room�
                 ∙ append-assoc (take m ms′) (memberRow 6 owner (suc k) ∷ []) (map (memberRow 6 owner) (resolve t (enter (nameCells (take n st′)) k c) (rest off v (x .end)) .refs))
                 ∙ again;
             left = omega (arith, E .left, ap length next);
+            apart = subst (λ (rs : Table). namesLead t (nameCells rs) 0 (nameCells rs) ≡ true) (sym took) (apart-entered t (take n st′) piece spelled (E .apart));
           }
         where
           again : take m ms′ ++ (memberRow 6 owner (suc k) ∷ map (memberRow 6 owner) (resolve t (enter (nameCells (take n st′)) k (pieceCell piece)) (rest off v (x .end)) .refs)) ≡ members

@@ -12,12 +12,14 @@ use Rattle.definition.specs.Text.{Piece, bytesAt}
 use Rattle.definition.specs.Elements.{namesState}
 use Rattle.definition.specs.Rows.{Row, Table, Cell, cellAt, textAt, textFrom}
 use Rattle.definition.specs.Look.{nameCells, findName, pieceCell, enter, resolve}
+use Rattle.definition.specs.Rules.{namesLead}
 use Rattle.definition.specs.Reader.{over}
 use Rattle.plan.proofs.Over.{over-start}
 use Rattle.fill.specs.Fill.{cell}
 use Rattle.tables.proofs.Clean.{over-over}
 use Rattle.targets.specs.Enter.{enterRow, enterAll, namesAt, memberRow, placedRow, countAfter, Room, Entered}
 use Rattle.targets.proofs.Laws.{Partly, partly-start, partly-end, enter-partly, enter-size, cells-enter, all-grows}
+use Rattle.targets.proofs.ApartLaws.{apart-entered}
 use Rattle.fill.specs.declared.TextCell.{TextCell}
 use Rattle.fill.specs.Fill.{asCell}
 use Rattle.targets.specs.Names.{piecesAt, ownPiece, targetPieces, piecesIn, skipOf, NameRoom, NamesWritten, InText}
@@ -78,6 +80,7 @@ module _ (st ms : Table) (text : List ℕ) (count used owner : ℕ) (c : TextCel
           fits = R .fits;
           states = omega (arith, R .states, ap (λ (ps : List Piece). length (enterAll text (take count st) ps)) pieces-are);
           members = omega (arith, R .members, ap length pieces-are);
+          apart = R .apart;
         }
 
     pub targets-written : (st′ ms′ : Table) (n m : ℕ) → Entered st ms text count used off len owner st′ ms′ n m → NamesWritten st ms text count used owner 0 (piecesAt text (asCell c)) st′ ms′ n m
@@ -109,6 +112,10 @@ module _ (st ms : Table) (text : List ℕ) (count used owner : ℕ) (own : Cell)
     word-length : length (p .word) ≡ len
     unfolding bytesAt
     word-length = sym (ap length own-word) ∙ omega (arith, length-take len (drop off text), length-drop off text, inside, eo, el, there)
+
+    own-spelled : bytesAt text (record { off = p .off; len = length (p .word) }) ≡ p .word
+    unfolding ownPiece
+    own-spelled = ap₂ (λ (i j : ℕ). bytesAt text (record { off = i; len = j })) (sym eo) word-length ∙ own-word
 
     cell-is : record { at = off + 1; len = len } ≡ pieceCell p
     unfolding pieceCell ownPiece
@@ -173,6 +180,7 @@ module _ (st ms : Table) (text : List ℕ) (count used owner : ℕ) (own : Cell)
             fits = omega (arith, n-is, size-is, grown, ap length all-is, R .states);
             states = omega (arith, ap (λ (z : Table). length (enterAll text z ps)) rows-are, ap length all-is, R .states);
             members = R .members;
+            apart = subst (λ (z : Table). namesLead text (nameCells z) 0 (nameCells z) ≡ true) (sym rows-are) (apart-entered text rows p own-spelled (R .apart));
           }
 
       pub then-written : (st′ ms′ : Table) (i m : ℕ) → NamesWritten st₁ ms text n used owner 0 ps st′ ms′ i m → NamesWritten st ms text count used owner 1 (p ∷ ps) st′ ms′ i m

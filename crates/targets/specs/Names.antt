@@ -9,6 +9,7 @@ use Rattle.definition.specs.Text.{Piece}
 use Rattle.definition.specs.Elements.{namesState}
 use Rattle.definition.specs.Rows.{Table, Cell, cellAt, textAt, list}
 use Rattle.definition.specs.Look.{nameCells, resolve}
+use Rattle.definition.specs.Rules.{namesLead}
 use Rattle.definition.specs.Reader.{over}
 use Rattle.targets.specs.Enter.{enterAll, namesAt, memberRow}
 
@@ -44,13 +45,14 @@ piecesIn k g text t =
 unfoldable pub skipOf : ℕ → ℕ → ℕ
 skipOf k g = elim (eqb k 3) [ true ↦ 0 | false ↦ elim (namesState g) [ true ↦ 1 | false ↦ 0 ] ]
 
--- All that may be asked before names are entered: the rows have their places, and the cells of names lie in a short text.
+-- All that may be asked before names are entered: the rows have their places, the cells of names lie in a short text, and the names in use are distinct.
 pub record NameRoom (st ms : Table) (text : List ℕ) (count used skip : ℕ) (ps : List Piece) : Type 0 where
   pub short : length text ≤ 65535
   pub long : 256 ≤ length st
   pub fits : count ≤ 256
   pub states : length (enterAll text (take count st) ps) ≤ 256
   pub members : used + length (drop skip ps) ≤ length ms
+  pub apart : namesLead text (nameCells (take count st)) 0 (nameCells (take count st)) ≡ true
 
 -- A cell that is there lies in the text.
 abbrev pub InText : List ℕ → Cell → Type 0

@@ -6,11 +6,12 @@ use definition::codes::Kind;
 use definition::codes::ListKind;
 use definition::codes::Tag;
 use fill::TextCell;
-use names::find_state;
+use names::find_apart;
 use nesting::names_state;
 use rows::index;
 use texts::key_cell;
 use words::next_state_word;
+ghost use mathlib.Core.Bool.{true};
 ghost use mathlib.Core.Path.{_≡_};
 ghost use Prim.Native.Nat.{suc, _+_, _^_, _<_, _≤_};
 ghost use mathlib.Core.List.{_∷_};
@@ -19,6 +20,7 @@ ghost use Rattle.definition.specs.Text.{bytesAt};
 ghost use Rattle.definition.specs.Rows.{cellAt};
 ghost use Rattle.definition.specs.Look.{findName, nameCells};
 ghost use Rattle.definition.specs.Change.{stateRow};
+ghost use Rattle.definition.specs.Rules.{namesLead};
 ghost use Rattle.fill.specs.Fill.{asCell};
 ghost use Rattle.targets.specs.Enter.{placedRow, countAfter, memberRow, Room, Entered};
 ghost use Rattle.targets.specs.Names.{piecesAt, ownPiece, piecesIn, skipOf, NameRoom, NamesWritten, InText, OwnIn, TargetsIn};
@@ -44,16 +46,24 @@ fn put_member(members: &mut [[u32; 8]], i: usize, kind: u32, owner: u32, value: 
     members[i] = row;
 }
 
-// The place of the state whose name stands at `off`, from 0; a new name gets the next row.
-fn enter_name(states: &mut [[u32; 24]], count: usize, text: &[u8], off: usize, len: usize) -> usize
+// The place of the state whose name stands at `off`, from 0; a new name gets the next row. The search begins at the row `near`.
+fn enter_name(
+    states: &mut [[u32; 24]],
+    count: usize,
+    text: &[u8],
+    off: usize,
+    len: usize,
+    near: usize,
+) -> usize
     requires { ⌜ length (now text) ≤ 65535 ⌝ }
     requires { ⌜ off + len ≤ length (now text) ⌝ }
     requires { ⌜ (count ≤ length (now states)) × (countAfter count (findName (now text) (nameCells (take count (now states))) (bytesAt (now text) (record { off = off; len = len }))) ≤ length (now states)) ⌝ }
+    requires { ⌜ namesLead (now text) (nameCells (take count (now states))) 0 (nameCells (take count (now states))) ≡ true ⌝ }
     ensures { λ r. ⌜ r ≡ findName (now (text .entry)) (nameCells (take count (now (states .entry)))) (bytesAt (now (text .entry)) (record { off = off; len = len })) ⌝ }
     ensures { λ r. ⌜ now (states .exit) ≡ placedRow (now (states .entry)) count r (record { at = off + 1; len = len }) ⌝ }
 {
     let end = off + len;
-    let found = find_state(states, count, text, &text[off..end]);
+    let found = find_apart(states, count, text, &text[off..end], near);
     if found < count {
         return found;
     }
@@ -96,6 +106,8 @@ fn enter_targets(
     let mut n = count;
     let mut m = used;
     let mut at = 0;
+    // Targets that are listed together are often neighbours.
+    let mut near = 0;
     while at < v.len() {
         let next = next_state_word(v, at);
         let start = next.start;
@@ -106,11 +118,12 @@ fn enter_targets(
                 members: m,
             };
         }
-        let k = enter_name(states, n, text, off + start, stop - start);
+        let k = enter_name(states, n, text, off + start, stop - start, near);
         put_member(members, m, ListKind::TARGETS, owner, (k + 1) as u32);
         n = count_after(n, k);
         m += 1;
         at = stop;
+        near = k + 1;
     }
     Rows {
         states: n,
@@ -164,7 +177,7 @@ fn write_state(
     let long = own.len;
     let off = index(at - 1);
     let len = index(long);
-    let k = enter_name(states, count, text, off, len);
+    let k = enter_name(states, count, text, off, len, 0);
     let n = count_after(count, k);
     let c = key_cell(t, Key::INITIAL);
     write_targets(states, members, text, n, used, c, owner)

@@ -15,7 +15,7 @@ use Rattle.definition.specs.Event.{Event, keysDiffer, inForm}
 use Rattle.definition.specs.Rows.{Row, Table, Numbers, Store, tableOf}
 use Rattle.definition.specs.Look.{Load, Look, look, loadsOf, payload, fieldsFrom, nameCells, resolve, textAfter}
 use Rattle.definition.specs.Change.{entered}
-use Rattle.definition.specs.Rules.{keepsRules, chartLimits}
+use Rattle.definition.specs.Rules.{keepsRules, chartLimits, namesLead}
 use Rattle.definition.specs.Reader.{Lent, counts, taken, storeOf, allAtMost, questions, firstNo}
 use Rattle.definition.specs.Event.{kindFits}
 use Rattle.definition.specs.Rows.{Cell}
@@ -41,6 +41,9 @@ use Rattle.plan.specs.After.{applied, moveOf, moved, chartAfter, statesAfter, o
 use Rattle.plan.specs.Decided.{limitedP, decidedP}
 use Rattle.planfacts.proofs.FactsOf.{decided-by-plan, chart-there}
 use Rattle.kept.proofs.RulesKept.{accepted-kept}
+use Rattle.kept.proofs.Facts.{rules-from}
+use Rattle.kept.proofs.EnteredOk.{known-of}
+use Rattle.kept.proofs.Resolved.{leads-to, known-grow}
 use Rattle.kept.proofs.Base.{and-left, and-right, le-of, false-is-true}
 use Rattle.plain.specs.Plain.{Parsed, parsedOf}
 use Rattle.plan.specs.declared.Plan.{Plan}
@@ -264,6 +267,12 @@ module _ (p : Position) (a b c d f h i j k o y r : Table) (tx : List ℕ) (e : E
       text-short : length T ≤ 65535
       text-short = omega (arith, ap length (sym arena-eq), length-append (take (p .used) tx) (payloadIn (parsedOf e) (p .names)), length-take (p .used) tx, payload-fits)
 
+      -- the names in use lie in the text before the event: they are distinct in the text after it too
+      names-apart : namesLead T (nameCells (tableOf n 1)) 0 (nameCells (tableOf n 1)) ≡ true
+      names-apart =
+          let cs : List Cell = nameCells (tableOf n 1) in
+          leads-to T cs 0 cs (known-grow (s .text) (payload is) cs (known-of limits01 (s .text) n (rules-from limits01 s (Z .rules) .1)) .leads)
+
       room-here : Room T t
       unfolding storeOf taken counts
       room-here =
@@ -273,6 +282,7 @@ module _ (p : Position) (a b c d f h i j k o y r : Table) (tx : List ℕ) (e : E
             fits = Z .states .0;
             states = omega (arith, ap length entered-is, entered-fits);
             members = omega (arith, lengths-listed, listed-fits, set-length k (p .members) w, Z .members .1);
+            apart = names-apart;
           }
 
       to-parts : (P : List ℕ → List ℕ → Type 0) → P T t → P (arena p (parsedOf e) tx) (texts p (parsedOf e))

@@ -20,12 +20,12 @@ use Rattle.targets.proofs.put_member.Reads as put-member-reads
 use Rattle.words.proofs.next_state_word.Reads as next-state-word-reads
 
 abbrev Inv-loop : tie.InvT-loop
-Inv-loop states₀ members₀ text count used off len owner end v n₀ m₀ at₀ states members n m at =
+Inv-loop states₀ members₀ text count used off len owner end v n₀ m₀ at₀ near₀ states members n m at near =
     Entering states₀ members₀ text (bytesAt text (record { off = off; len = len })) off owner (enterAll text (take count states₀) (namesAt text off len))
     (take used members₀ ++ map (memberRow 6 owner) (resolve text (nameCells (take count states₀)) (namesAt text off len) .refs)) (used + length (namesAt text off len)) states members n m at
 
 abbrev μ-loop : tie.MeasureT-loop
-μ-loop states₀ members₀ text count used off len owner end v n₀ m₀ at₀ states members n m at = len - at
+μ-loop states₀ members₀ text count used off len owner end v n₀ m₀ at₀ near₀ states members n m at near = len - at
 
 -- src/lib.rt:74:15
 add-end : tie.Need-add-end Inv-loop μ-loop
@@ -73,7 +73,7 @@ sub-enter-name c = omega (arith, name-fits (c .before .before .before .before .b
 
 -- src/lib.rt:86:13
 enter-name-requires : tie.Need-enter-name-requires Inv-loop μ-loop
-enter-name-requires c κs = (c .before .before .before .before .before .before .before .pre .short, (name-fits (c .before .before .before .before .before .before .before .args .states .now) (c .before .before .before .before .before .before .before .args .members .now) (c .before .before .before .before .before .before .before .args .text .now) (c .before .before .before .before .before .before .before .args .count) (c .before .before .before .before .before .before .before .args .used) (c .before .before .before .before .before .before .before .args .off) (c .before .before .before .before .before .before .before .args .len) (c .before .before .before .before .before .before .before .args .owner) (c .before .before .before .before .before .before .before .pre) (c .before .before .before .before .loop .states) (c .before .before .before .before .loop .members) (c .before .before .before .before .loop .n) (c .before .before .before .before .loop .m) (c .before .before .before .before .loop .at) (c .before .before .before .before .loop .inv) (c .before .before .next-state-word .result) (c .before .before .next-state-word .ensures ∙ ap (λ (y : List ℕ). nextWord isSeparator y (c .before .before .before .before .loop .at)) (value (c .before .before .before .before .before .before .before .args .states .now) (c .before .before .before .before .before .before .before .args .members .now) (c .before .before .before .before .before .before .before .args .text .now) (c .before .before .before .before .before .before .before .args .count) (c .before .before .before .before .before .before .before .args .used) (c .before .before .before .before .before .before .before .args .off) (c .before .before .before .before .before .before .before .args .len) (c .before .before .before .before .before .before .before .args .owner) (c .before .before .before .before .before .before .before .pre))) (c .before .if1 .left) (subst (λ (y : List ℕ). (c .before .before .before .before .loop .at) < length y) (value (c .before .before .before .before .before .before .before .args .states .now) (c .before .before .before .before .before .before .before .args .members .now) (c .before .before .before .before .before .before .before .args .text .now) (c .before .before .before .before .before .before .before .args .count) (c .before .before .before .before .before .before .before .args .used) (c .before .before .before .before .before .before .before .args .off) (c .before .before .before .before .before .before .before .args .len) (c .before .before .before .before .before .before .before .args .owner) (c .before .before .before .before .before .before .before .pre)) (c .before .before .before .loop-test .taken)) .1, name-room (c .before .before .before .before .before .before .before .args .states .now) (c .before .before .before .before .before .before .before .args .members .now) (c .before .before .before .before .before .before .before .args .text .now) (c .before .before .before .before .before .before .before .args .count) (c .before .before .before .before .before .before .before .args .used) (c .before .before .before .before .before .before .before .args .off) (c .before .before .before .before .before .before .before .args .len) (c .before .before .before .before .before .before .before .args .owner) (c .before .before .before .before .before .before .before .pre) (c .before .before .before .before .loop .states) (c .before .before .before .before .loop .members) (c .before .before .before .before .loop .n) (c .before .before .before .before .loop .m) (c .before .before .before .before .loop .at) (c .before .before .before .before .loop .inv) (c .before .before .next-state-word .result) (c .before .before .next-state-word .ensures ∙ ap (λ (y : List ℕ). nextWord isSeparator y (c .before .before .before .before .loop .at)) (value (c .before .before .before .before .before .before .before .args .states .now) (c .before .before .before .before .before .before .before .args .members .now) (c .before .before .before .before .before .before .before .args .text .now) (c .before .before .before .before .before .before .before .args .count) (c .before .before .before .before .before .before .before .args .used) (c .before .before .before .before .before .before .before .args .off) (c .before .before .before .before .before .before .before .args .len) (c .before .before .before .before .before .before .before .args .owner) (c .before .before .before .before .before .before .before .pre))) (c .before .if1 .left) (subst (λ (y : List ℕ). (c .before .before .before .before .loop .at) < length y) (value (c .before .before .before .before .before .before .before .args .states .now) (c .before .before .before .before .before .before .before .args .members .now) (c .before .before .before .before .before .before .before .args .text .now) (c .before .before .before .before .before .before .before .args .count) (c .before .before .before .before .before .before .before .args .used) (c .before .before .before .before .before .before .before .args .off) (c .before .before .before .before .before .before .before .args .len) (c .before .before .before .before .before .before .before .args .owner) (c .before .before .before .before .before .before .before .pre)) (c .before .before .before .loop-test .taken))))
+enter-name-requires c κs = (c .before .before .before .before .before .before .before .pre .short, (name-fits (c .before .before .before .before .before .before .before .args .states .now) (c .before .before .before .before .before .before .before .args .members .now) (c .before .before .before .before .before .before .before .args .text .now) (c .before .before .before .before .before .before .before .args .count) (c .before .before .before .before .before .before .before .args .used) (c .before .before .before .before .before .before .before .args .off) (c .before .before .before .before .before .before .before .args .len) (c .before .before .before .before .before .before .before .args .owner) (c .before .before .before .before .before .before .before .pre) (c .before .before .before .before .loop .states) (c .before .before .before .before .loop .members) (c .before .before .before .before .loop .n) (c .before .before .before .before .loop .m) (c .before .before .before .before .loop .at) (c .before .before .before .before .loop .inv) (c .before .before .next-state-word .result) (c .before .before .next-state-word .ensures ∙ ap (λ (y : List ℕ). nextWord isSeparator y (c .before .before .before .before .loop .at)) (value (c .before .before .before .before .before .before .before .args .states .now) (c .before .before .before .before .before .before .before .args .members .now) (c .before .before .before .before .before .before .before .args .text .now) (c .before .before .before .before .before .before .before .args .count) (c .before .before .before .before .before .before .before .args .used) (c .before .before .before .before .before .before .before .args .off) (c .before .before .before .before .before .before .before .args .len) (c .before .before .before .before .before .before .before .args .owner) (c .before .before .before .before .before .before .before .pre))) (c .before .if1 .left) (subst (λ (y : List ℕ). (c .before .before .before .before .loop .at) < length y) (value (c .before .before .before .before .before .before .before .args .states .now) (c .before .before .before .before .before .before .before .args .members .now) (c .before .before .before .before .before .before .before .args .text .now) (c .before .before .before .before .before .before .before .args .count) (c .before .before .before .before .before .before .before .args .used) (c .before .before .before .before .before .before .before .args .off) (c .before .before .before .before .before .before .before .args .len) (c .before .before .before .before .before .before .before .args .owner) (c .before .before .before .before .before .before .before .pre)) (c .before .before .before .loop-test .taken)) .1, (name-room (c .before .before .before .before .before .before .before .args .states .now) (c .before .before .before .before .before .before .before .args .members .now) (c .before .before .before .before .before .before .before .args .text .now) (c .before .before .before .before .before .before .before .args .count) (c .before .before .before .before .before .before .before .args .used) (c .before .before .before .before .before .before .before .args .off) (c .before .before .before .before .before .before .before .args .len) (c .before .before .before .before .before .before .before .args .owner) (c .before .before .before .before .before .before .before .pre) (c .before .before .before .before .loop .states) (c .before .before .before .before .loop .members) (c .before .before .before .before .loop .n) (c .before .before .before .before .loop .m) (c .before .before .before .before .loop .at) (c .before .before .before .before .loop .inv) (c .before .before .next-state-word .result) (c .before .before .next-state-word .ensures ∙ ap (λ (y : List ℕ). nextWord isSeparator y (c .before .before .before .before .loop .at)) (value (c .before .before .before .before .before .before .before .args .states .now) (c .before .before .before .before .before .before .before .args .members .now) (c .before .before .before .before .before .before .before .args .text .now) (c .before .before .before .before .before .before .before .args .count) (c .before .before .before .before .before .before .before .args .used) (c .before .before .before .before .before .before .before .args .off) (c .before .before .before .before .before .before .before .args .len) (c .before .before .before .before .before .before .before .args .owner) (c .before .before .before .before .before .before .before .pre))) (c .before .if1 .left) (subst (λ (y : List ℕ). (c .before .before .before .before .loop .at) < length y) (value (c .before .before .before .before .before .before .before .args .states .now) (c .before .before .before .before .before .before .before .args .members .now) (c .before .before .before .before .before .before .before .args .text .now) (c .before .before .before .before .before .before .before .args .count) (c .before .before .before .before .before .before .before .args .used) (c .before .before .before .before .before .before .before .args .off) (c .before .before .before .before .before .before .before .args .len) (c .before .before .before .before .before .before .before .args .owner) (c .before .before .before .before .before .before .before .pre)) (c .before .before .before .loop-test .taken)), c .before .before .before .before .loop .inv .apart)))
 
 -- src/lib.rt:87:43
 add-put-member : tie.Need-add-put-member Inv-loop μ-loop
@@ -94,6 +94,9 @@ count-after-requires c κs = omega (arith, name-small (c .before .before .before
 -- src/lib.rt:89:9
 add-m : tie.Need-add-m Inv-loop μ-loop
 add-m c = omega (arith, member-room (c .before .before .before .before .before .before .before .before .before .before .before .before .before .args .states .now) (c .before .before .before .before .before .before .before .before .before .before .before .before .before .args .members .now) (c .before .before .before .before .before .before .before .before .before .before .before .before .before .args .text .now) (c .before .before .before .before .before .before .before .before .before .before .before .before .before .args .count) (c .before .before .before .before .before .before .before .before .before .before .before .before .before .args .used) (c .before .before .before .before .before .before .before .before .before .before .before .before .before .args .off) (c .before .before .before .before .before .before .before .before .before .before .before .before .before .args .len) (c .before .before .before .before .before .before .before .before .before .before .before .before .before .args .owner) (c .before .before .before .before .before .before .before .before .before .before .before .before .before .pre) (c .before .before .before .before .before .before .before .before .before .before .loop .states) (c .before .before .before .before .before .before .before .before .before .before .loop .members) (c .before .before .before .before .before .before .before .before .before .before .loop .n) (c .before .before .before .before .before .before .before .before .before .before .loop .m) (c .before .before .before .before .before .before .before .before .before .before .loop .at) (c .before .before .before .before .before .before .before .before .before .before .loop .inv) (c .before .before .before .before .before .before .before .before .next-state-word .result) (c .before .before .before .before .before .before .before .before .next-state-word .ensures ∙ ap (λ (y : List ℕ). nextWord isSeparator y (c .before .before .before .before .before .before .before .before .before .before .loop .at)) (value (c .before .before .before .before .before .before .before .before .before .before .before .before .before .args .states .now) (c .before .before .before .before .before .before .before .before .before .before .before .before .before .args .members .now) (c .before .before .before .before .before .before .before .before .before .before .before .before .before .args .text .now) (c .before .before .before .before .before .before .before .before .before .before .before .before .before .args .count) (c .before .before .before .before .before .before .before .before .before .before .before .before .before .args .used) (c .before .before .before .before .before .before .before .before .before .before .before .before .before .args .off) (c .before .before .before .before .before .before .before .before .before .before .before .before .before .args .len) (c .before .before .before .before .before .before .before .before .before .before .before .before .before .args .owner) (c .before .before .before .before .before .before .before .before .before .before .before .before .before .pre))) (c .before .before .before .before .before .before .before .if1 .left) (subst (λ (y : List ℕ). (c .before .before .before .before .before .before .before .before .before .before .loop .at) < length y) (value (c .before .before .before .before .before .before .before .before .before .before .before .before .before .args .states .now) (c .before .before .before .before .before .before .before .before .before .before .before .before .before .args .members .now) (c .before .before .before .before .before .before .before .before .before .before .before .before .before .args .text .now) (c .before .before .before .before .before .before .before .before .before .before .before .before .before .args .count) (c .before .before .before .before .before .before .before .before .before .before .before .before .before .args .used) (c .before .before .before .before .before .before .before .before .before .before .before .before .before .args .off) (c .before .before .before .before .before .before .before .before .before .before .before .before .before .args .len) (c .before .before .before .before .before .before .before .before .before .before .before .before .before .args .owner) (c .before .before .before .before .before .before .before .before .before .before .before .before .before .pre)) (c .before .before .before .before .before .before .before .before .before .loop-test .taken)))
+
+add-near : tie.Need-add-near Inv-loop μ-loop
+add-near c = omega (arith, name-small (c .before .before .before .before .before .before .before .before .before .before .before .before .before .args .states .now) (c .before .before .before .before .before .before .before .before .before .before .before .before .before .args .members .now) (c .before .before .before .before .before .before .before .before .before .before .before .before .before .args .text .now) (c .before .before .before .before .before .before .before .before .before .before .before .before .before .args .count) (c .before .before .before .before .before .before .before .before .before .before .before .before .before .args .used) (c .before .before .before .before .before .before .before .before .before .before .before .before .before .args .off) (c .before .before .before .before .before .before .before .before .before .before .before .before .before .args .len) (c .before .before .before .before .before .before .before .before .before .before .before .before .before .args .owner) (c .before .before .before .before .before .before .before .before .before .before .before .before .before .pre) (c .before .before .before .before .before .before .before .before .before .before .loop .states) (c .before .before .before .before .before .before .before .before .before .before .loop .members) (c .before .before .before .before .before .before .before .before .before .before .loop .n) (c .before .before .before .before .before .before .before .before .before .before .loop .m) (c .before .before .before .before .before .before .before .before .before .before .loop .at) (c .before .before .before .before .before .before .before .before .before .before .loop .inv) (c .before .before .before .before .before .before .before .before .next-state-word .result) (c .before .before .before .before .before .before .before .before .next-state-word .ensures ∙ ap (λ (y : List ℕ). nextWord isSeparator y (c .before .before .before .before .before .before .before .before .before .before .loop .at)) (value (c .before .before .before .before .before .before .before .before .before .before .before .before .before .args .states .now) (c .before .before .before .before .before .before .before .before .before .before .before .before .before .args .members .now) (c .before .before .before .before .before .before .before .before .before .before .before .before .before .args .text .now) (c .before .before .before .before .before .before .before .before .before .before .before .before .before .args .count) (c .before .before .before .before .before .before .before .before .before .before .before .before .before .args .used) (c .before .before .before .before .before .before .before .before .before .before .before .before .before .args .off) (c .before .before .before .before .before .before .before .before .before .before .before .before .before .args .len) (c .before .before .before .before .before .before .before .before .before .before .before .before .before .args .owner) (c .before .before .before .before .before .before .before .before .before .before .before .before .before .pre))) (c .before .before .before .before .before .before .before .if1 .left) (subst (λ (y : List ℕ). (c .before .before .before .before .before .before .before .before .before .before .loop .at) < length y) (value (c .before .before .before .before .before .before .before .before .before .before .before .before .before .args .states .now) (c .before .before .before .before .before .before .before .before .before .before .before .before .before .args .members .now) (c .before .before .before .before .before .before .before .before .before .before .before .before .before .args .text .now) (c .before .before .before .before .before .before .before .before .before .before .before .before .before .args .count) (c .before .before .before .before .before .before .before .before .before .before .before .before .before .args .used) (c .before .before .before .before .before .before .before .before .before .before .before .before .before .args .off) (c .before .before .before .before .before .before .before .before .before .before .before .before .before .args .len) (c .before .before .before .before .before .before .before .before .before .before .before .before .before .args .owner) (c .before .before .before .before .before .before .before .before .before .before .before .before .before .pre)) (c .before .before .before .before .before .before .before .before .before .loop-test .taken)) (c .before .before .before .before .before .enter-name .result) (c .before .before .before .before .before .enter-name .ensures .0))
 
 -- src/lib.rt:79:5
 loop-less : tie.Need-loop-less Inv-loop μ-loop
@@ -138,6 +141,7 @@ enter-targets-spec =
     put-member-requires
     count-after-requires
     add-m
+    add-near
     loop-less
     loop-again
     same-length-3

@@ -27,7 +27,7 @@ index-requires-2 : tie.Need-index-requires-2
 index-requires-2 c κs = search needs
 
 enter-name-requires : tie.Need-enter-name-requires
-enter-name-requires c κs = (c .before .before .before .before .before .before .pre .0 .short, (name-inside (c .before .before .before .before .before .before .args .states .now) (c .before .before .before .before .before .before .args .members .now) (c .before .before .before .before .before .before .args .text .now) (c .before .before .before .before .before .before .args .count) (c .before .before .before .before .before .before .args .used) (c .before .before .before .before .before .before .args .owner) (cellAt (c .before .before .before .before .before .before .args .t .now) 2) (piecesAt (c .before .before .before .before .before .before .args .text .now) (cellAt (c .before .before .before .before .before .before .args .t .now) 4)) (c .before .before .before .before .before .before .pre .1 .0 .0) (c .before .before .before .before .before .before .pre .1 .0 .1) (c .before .before .before .before .before .before .pre .0) _ _ (off-at _ (cellAt (c .before .before .before .before .before .before .args .t .now) 2) (c .before .before .before .key-cell .ensures) 0 _ (c .before .before .index .ensures .0)) (c .before .index2 .ensures .0 ∙ cell-len _ (cellAt (c .before .before .before .before .before .before .args .t .now) 2) (c .before .before .before .key-cell .ensures)), name-room (c .before .before .before .before .before .before .args .states .now) (c .before .before .before .before .before .before .args .members .now) (c .before .before .before .before .before .before .args .text .now) (c .before .before .before .before .before .before .args .count) (c .before .before .before .before .before .before .args .used) (c .before .before .before .before .before .before .args .owner) (cellAt (c .before .before .before .before .before .before .args .t .now) 2) (piecesAt (c .before .before .before .before .before .before .args .text .now) (cellAt (c .before .before .before .before .before .before .args .t .now) 4)) (c .before .before .before .before .before .before .pre .1 .0 .0) (c .before .before .before .before .before .before .pre .1 .0 .1) (c .before .before .before .before .before .before .pre .0) _ _ (off-at _ (cellAt (c .before .before .before .before .before .before .args .t .now) 2) (c .before .before .before .key-cell .ensures) 0 _ (c .before .before .index .ensures .0)) (c .before .index2 .ensures .0 ∙ cell-len _ (cellAt (c .before .before .before .before .before .before .args .t .now) 2) (c .before .before .before .key-cell .ensures))))
+enter-name-requires c κs = (c .before .before .before .before .before .before .pre .0 .short, (name-inside (c .before .before .before .before .before .before .args .states .now) (c .before .before .before .before .before .before .args .members .now) (c .before .before .before .before .before .before .args .text .now) (c .before .before .before .before .before .before .args .count) (c .before .before .before .before .before .before .args .used) (c .before .before .before .before .before .before .args .owner) (cellAt (c .before .before .before .before .before .before .args .t .now) 2) (piecesAt (c .before .before .before .before .before .before .args .text .now) (cellAt (c .before .before .before .before .before .before .args .t .now) 4)) (c .before .before .before .before .before .before .pre .1 .0 .0) (c .before .before .before .before .before .before .pre .1 .0 .1) (c .before .before .before .before .before .before .pre .0) _ _ (off-at _ (cellAt (c .before .before .before .before .before .before .args .t .now) 2) (c .before .before .before .key-cell .ensures) 0 _ (c .before .before .index .ensures .0)) (c .before .index2 .ensures .0 ∙ cell-len _ (cellAt (c .before .before .before .before .before .before .args .t .now) 2) (c .before .before .before .key-cell .ensures)), (name-room (c .before .before .before .before .before .before .args .states .now) (c .before .before .before .before .before .before .args .members .now) (c .before .before .before .before .before .before .args .text .now) (c .before .before .before .before .before .before .args .count) (c .before .before .before .before .before .before .args .used) (c .before .before .before .before .before .before .args .owner) (cellAt (c .before .before .before .before .before .before .args .t .now) 2) (piecesAt (c .before .before .before .before .before .before .args .text .now) (cellAt (c .before .before .before .before .before .before .args .t .now) 4)) (c .before .before .before .before .before .before .pre .1 .0 .0) (c .before .before .before .before .before .before .pre .1 .0 .1) (c .before .before .before .before .before .before .pre .0) _ _ (off-at _ (cellAt (c .before .before .before .before .before .before .args .t .now) 2) (c .before .before .before .key-cell .ensures) 0 _ (c .before .before .index .ensures .0)) (c .before .index2 .ensures .0 ∙ cell-len _ (cellAt (c .before .before .before .before .before .before .args .t .now) 2) (c .before .before .before .key-cell .ensures)), c .before .before .before .before .before .before .pre .0 .apart)))
 
 count-after-requires : tie.Need-count-after-requires
 count-after-requires c κs = omega (arith, c .before .before .before .before .before .before .before .before .pre .0 .fits)
