@@ -12,9 +12,10 @@ use Rattle.lines.specs.Parts.{part, orNothing}
 use Rattle.parts.specs.declared.Part.{Part}
 use Rattle.parts.specs.declared.Pair.{Pair}
 use Rattle.parts.specs.declared.Walked.{Walked}
-use Rattle.parts.specs.Parts.{partAt, noPair}
+use Rattle.parts.specs.Parts.{partAt, noPair, pairsOf}
 use Rattle.walk.specs.Walk.{walked}
 use Rattle.event.specs.declared.Described.{Described}
+use Rattle.event.specs.declared.Head.{Head}
 
 -- Refused: the number of the question that is answered no, and zeros.
 unfoldable pub blank : ℕ → Described
@@ -27,6 +28,20 @@ blank n =
       count = 0;
       pairs = replicate 16 noPair;
       text = partAt 0 0 0;
+    }
+
+-- What a head and the rows beside it say together.
+unfoldable pub describedBy : Head → List (List ℕ) → Described
+unfolding pairsOf
+describedBy h rs =
+    record {
+      number = h .number;
+      kind = h .kind;
+      tag = h .tag;
+      name = h .name;
+      count = h .count;
+      pairs = pairsOf rs;
+      text = h .text;
     }
 
 -- Taken apart: what the lines have brought.

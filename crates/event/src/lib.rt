@@ -29,6 +29,16 @@ pub struct Described {
     pub text: Part,
 }
 
+// The same without the attributes, which stand in a slice that is lent.
+pub struct Head {
+    pub number: u32,
+    pub kind: u32,
+    pub tag: u32,
+    pub name: Part,
+    pub count: usize,
+    pub text: Part,
+}
+
 fn blank_with(number: u32) -> Described
     ensures { λ r. ⌜ r ≡ blank number ⌝ }
 {

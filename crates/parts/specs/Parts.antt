@@ -2,13 +2,14 @@
 use Prim.Native.Nat.{ℕ, _+_, _<_, min}
 use mathlib.Core.Path.{_≡_}
 use mathlib.Core.Bool.{Bool, true, false}
-use mathlib.Core.List.{List}
-use lib.ListN.{set, replicate}
+use mathlib.Core.List.{List, [], _∷_}
+use lib.ListN.{set, getD, replicate}
 use lib.Dec.{ltb}
 use Rattle.definition.specs.Limits.{limits01}
 use Rattle.parts.specs.declared.Part.{Part}
 use Rattle.parts.specs.declared.Pair.{Pair}
 use Rattle.parts.specs.declared.Walked.{Walked}
+use Rattle.parts.specs.declared.Heading.{Heading}
 
 abbrev pub partAt : ℕ → ℕ → ℕ → Part
 partAt at len size = record { at = at; len = len; size = size }
@@ -131,3 +132,29 @@ atMost16 c = min c 16
 unfoldable pub addedValue : Part → Walked → Walked
 unfolding roomLeft withValue broken
 addedValue p d = elim (roomLeft (d .count)) [ true ↦ withValue p d | false ↦ broken d ]
+
+-- ---- attributes in rows of numbers: a key's number, then both parts
+
+unfoldable pub pairOf : List ℕ → Pair
+pairOf r = record { code = getD r 0 0; key = partAt (getD r 1 0) (getD r 2 0) (getD r 3 0); value = partAt (getD r 4 0) (getD r 5 0) (getD r 6 0) }
+
+unfoldable pub pairsOf : List (List ℕ) → List Pair
+unfolding pairOf
+pairsOf [] = []
+pairsOf (r ∷ rs) = pairOf r ∷ pairsOf rs
+
+-- What a heading and the rows beside it say together, where no key awaits its value.
+unfoldable pub walkedBy : Heading → List (List ℕ) → Walked
+unfolding pairsOf
+walkedBy h rs =
+    record {
+      next = h .next;
+      kind = h .kind;
+      tag = h .tag;
+      name = h .name;
+      code = 0;
+      key = partAt 0 0 0;
+      count = h .count;
+      pairs = pairsOf rs;
+      text = h .text;
+    }

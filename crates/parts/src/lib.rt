@@ -2,9 +2,10 @@
 use text::same;
 ghost use mathlib.Core.Path.{_≡_};
 ghost use Prim.Native.Nat.{_^_, _<_, _≤_};
+ghost use lib.ListN.{length, getD, set};
 ghost use Rattle.definition.specs.Text.{placeIn};
 ghost use Rattle.definition.specs.Event.{kindNames};
-ghost use Rattle.parts.specs.Parts.{partAt, noPairs, atMost16};
+ghost use Rattle.parts.specs.Parts.{partAt, noPair, noPairs, pairsOf, atMost16};
 
 // A part of an event: where it is written, in how many bytes, and its unescaped length. Small, since descriptions go by value.
 pub struct Part {
@@ -31,6 +32,16 @@ pub struct Walked {
     pub key: Part,
     pub count: usize,
     pub pairs: [Pair; 16],
+    pub text: Part,
+}
+
+// The same without the attributes, which stand in a slice that is lent: as a part of this they would be copied with it from stage to stage.
+pub struct Heading {
+    pub next: u32,
+    pub kind: u32,
+    pub tag: u32,
+    pub name: Part,
+    pub count: usize,
     pub text: Part,
 }
 
@@ -91,6 +102,63 @@ pub fn no_pairs() -> [Pair; 16]
         value: part,
     };
     [none; 16]
+}
+
+// An attribute in a row of a slice that is lent: its key's number, then both parts.
+pub fn put_pair(pairs: &mut [[u16; 8]], i: usize, p: Pair)
+    requires { ⌜ (i < length (now pairs)) × (p .code < 2 ^ 16) ⌝ }
+    ensures { λ _. ⌜ pairsOf (now (pairs .exit)) ≡ set (pairsOf (now (pairs .entry))) i p ⌝ }
+{
+    let key = p.key;
+    let value = p.value;
+    let mut row = [0u16; 8];
+    row[0] = p.code as u16;
+    row[1] = key.at;
+    row[2] = key.len;
+    row[3] = key.size;
+    row[4] = value.at;
+    row[5] = value.len;
+    row[6] = value.size;
+    pairs[i] = row;
+}
+
+fn number(x: u16) -> u32
+    ensures { λ r. ⌜ r ≡ x ⌝ }
+{
+    x as u32
+}
+
+pub fn pair_at(pairs: &[[u16; 8]], i: usize) -> Pair
+    requires { ⌜ i < length (now pairs) ⌝ }
+    ensures { λ r. ⌜ r ≡ getD (pairsOf (now (pairs .entry))) i noPair ⌝ }
+{
+    let key = Part {
+        at: pairs[i][1],
+        len: pairs[i][2],
+        size: pairs[i][3],
+    };
+    let value = Part {
+        at: pairs[i][4],
+        len: pairs[i][5],
+        size: pairs[i][6],
+    };
+    Pair {
+        code: number(pairs[i][0]),
+        key: key,
+        value: value,
+    }
+}
+
+// No attribute in any of the 16 places.
+pub fn clear(pairs: &mut [[u16; 8]])
+    requires { ⌜ length (now pairs) ≡ 16 ⌝ }
+    ensures { λ _. ⌜ pairsOf (now (pairs .exit)) ≡ noPairs ⌝ }
+{
+    let mut i = 0;
+    while i < 16 {
+        pairs[i] = [0u16; 8];
+        i += 1;
+    }
 }
 
 // How many of an event's 16 places a loop goes through. It is computed before the loop, since the compiler writes a loop to 16, with an exit at the count, out
