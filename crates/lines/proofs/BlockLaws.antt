@@ -7,7 +7,7 @@ use native.Mathlib.Omega.{arith}
 use lib.Dec.{eqb}
 use lib.ListN.{length, getD, take, drop, length-drop}
 use lib.Seq.{take-suc, getD-drop, drop-drop, take-all}
-use borrow.Author.Tests.{not-true, not-false, eqb-false, ltb-true}
+use borrow.Author.Tests.{not-true, eqb-false, ltb-true}
 use Rattle.definition.specs.Text.{isAllowed}
 use Rattle.definition.specs.Event.{legible}
 use Rattle.definition.proofs.Base.{true-is-false}

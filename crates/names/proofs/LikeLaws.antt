@@ -2,19 +2,17 @@
 use Prim.Native.Nat.{ℕ, zero, suc, _+_, _-_, _≤_, _<_}
 use mathlib.Core.Path.{_≡_, refl, sym, ap, ap₂, _∙_}
 use mathlib.Core.Bool.{Bool, true, false, _||_}
-use mathlib.Core.List.{List, [], _∷_}
+use mathlib.Core.List.{List}
 use native.Mathlib.Omega.{arith}
 use lib.Dec.{eqb, ltb}
-use lib.ListN.{length, getD, take, drop, drop-of-length-le, length-drop, length-take}
-use lib.Seq.{drop-drop, getD-take, getD-drop, take-length}
+use lib.ListN.{length, getD, take, drop, length-drop, length-take}
+use lib.Seq.{getD-take, getD-drop, take-length}
 use borrow.Author.Tests.{ltb-false, lt-ltb, le-ltb, eq-eqb, ne-eqb}
 use Rattle.definition.specs.Text.{same, bytesAt}
-use Rattle.definition.specs.Rows.{Row, Table, Cell, textAt, textFrom, cellAt}
-use Rattle.definition.specs.Look.{findName, nameCells}
+use Rattle.definition.specs.Rows.{Cell, textAt, textFrom}
 use Rattle.definition.proofs.Base.{same-eq}
 use Rattle.words.proofs.Laws.{by}
-use Rattle.names.specs.Names.{endsSo, firstLike}
-use Rattle.names.proofs.Laws.{find-miss, cells-next}
+use Rattle.names.specs.Names.{endsSo}
 
 -- ---- the two bytes
 
@@ -44,36 +42,6 @@ module _ (t : List ℕ) (at before last : ℕ) where
 
       pub ends-both : (at ≡ 0 → ⊥) → there ≡ endsSo t at before last
       ends-both z = ends-by false (ne-eqb at 0 z)
-
--- ---- the first row that may end so
-
-like-hit : (t : List ℕ) (b l : ℕ) (c : Cell) (cs : List Cell) → endsSo t (c .at) b l ≡ true → firstLike t b l (c ∷ cs) ≡ 0
-unfolding firstLike
-like-hit t b l c cs e = rw (e, firstLike)
-
-like-miss : (t : List ℕ) (b l : ℕ) (c : Cell) (cs : List Cell) → endsSo t (c .at) b l ≡ false → firstLike t b l (c ∷ cs) ≡ suc (firstLike t b l cs)
-unfolding firstLike
-like-miss t b l c cs e = rw (e, firstLike)
-
-module _ (rows : Table) (count : ℕ) (fits : count ≤ length rows) (t : List ℕ) (b l i : ℕ) where
-  abbrev likes : ℕ → ℕ
-  likes j = firstLike t b l (nameCells (drop j (take count rows)))
-
-  abbrev ends : Bool
-  ends = endsSo t (getD (getD rows i []) 0 0) b l
-
-  pub like-found : (s : ℕ) → i < count → i + likes i ≡ s → ends ≡ true → i ≡ s
-  like-found s h e q = let z : likes i ≡ 0 = ap (firstLike t b l) (cells-next rows count fits [] [] i h) ∙ like-hit t b l _ _ q in omega (arith, z, e)
-
-  pub like-passed : (s : ℕ) → i < count → i + likes i ≡ s → ends ≡ false → i + 1 + likes (i + 1) ≡ s
-  like-passed s h e q = let z : likes i ≡ suc (likes (i + 1)) = ap (firstLike t b l) (cells-next rows count fits [] [] i h) ∙ like-miss t b l _ _ q in omega (arith, z, e)
-
-  pub like-end : (s : ℕ) → count ≤ i → i + likes i ≡ s → i ≡ s
-  unfolding firstLike nameCells
-  like-end s h e =
-      let m : length (take count rows) ≤ i = omega (arith, length-take count rows) in
-      let z : likes i ≡ 0 = ap (λ (rs : Table). firstLike t b l (nameCells rs)) (drop-of-length-le (take count rows) m) in
-      omega (arith, z, e)
 
 -- ---- who doesn't end so is another
 
@@ -120,24 +88,3 @@ module _ (t w : List ℕ) (start b l : ℕ) (tail : List ℕ) (E : Ending t w st
     where
       other : _≡_ {A = Bool} true false → same (textAt t c) w ≡ false
       other z = let y : _≡_ {A = ℕ} 0 1 = cc in absurd (omega (arith, y))
-
-  -- The rows that are passed over.
-  abbrev over : Table → ℕ
-  over rs = firstLike tail b l (nameCells rs)
-
-  over-rows : (rs : Table) → over rs + findName t (nameCells (drop (over rs) rs)) w ≡ findName t (nameCells rs) w
-  unfolding nameCells firstLike findName
-  over-rows [] = omega arith
-  over-rows (r ∷ rs) =
-      by (endsSo tail (cellAt r 0 .at) b l)
-      (λ q. let z : over (r ∷ rs) ≡ 0 = like-hit tail b l (cellAt r 0) (nameCells rs) q in ap (λ (n : ℕ). n + findName t (nameCells (drop n (r ∷ rs))) w) z ∙ omega arith)
-      (λ q.
-      let z : over (r ∷ rs) ≡ suc (over rs) = like-miss tail b l (cellAt r 0) (nameCells rs) q in
-      let y : findName t (nameCells (r ∷ rs)) w ≡ suc (findName t (nameCells rs) w) = find-miss t (cellAt r 0) (nameCells rs) w (like-not (cellAt r 0) q) in
-      ap (λ (n : ℕ). n + findName t (nameCells (drop n (r ∷ rs))) w) z ∙ omega (arith, y, over-rows rs))
-
-  pub passed-over : (rs : Table) (f r s : ℕ) → r ≡ f + over (drop f rs) → f + findName t (nameCells (drop f rs)) w ≡ s → r + findName t (nameCells (drop r rs)) w ≡ s
-  passed-over rs f r s e h =
-      let n : ℕ = over (drop f rs) in
-      let z : findName t (nameCells (drop n (drop f rs))) w ≡ findName t (nameCells (drop r rs)) w = ap (λ (x : Table). findName t (nameCells x) w) (drop-drop n f rs ∙ ap (λ (k : ℕ). drop k rs) (sym e)) in
-      omega (arith, e, h, z, over-rows (drop f rs))

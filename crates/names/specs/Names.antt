@@ -27,12 +27,6 @@ endsSo t at before last =
       | true ↦ elim (eqb (getD t at 0) last) [ false ↦ false | true ↦ elim (eqb at 0) [ true ↦ false | false ↦ eqb (getD t (at - 1) 0) before ] ]
     ]
 
--- The first cell that may end so, from 0; their number if none may.
-unfoldable pub firstLike : List ℕ → ℕ → ℕ → List Cell → ℕ
-unfolding endsSo
-firstLike t before last [] = 0
-firstLike t before last (c ∷ cs) = elim (endsSo t (c .at) before last) [ true ↦ 0 | false ↦ suc (firstLike t before last cs) ]
-
 -- The last of the first n rows whose name may end so, from 1; 0 if none may.
 unfoldable pub lastLike : List ℕ → ℕ → ℕ → Table → ℕ → ℕ
 unfolding endsSo

@@ -26,7 +26,7 @@ ghost use Rattle.definition.specs.Look.{findName, nameCells};
 ghost use Rattle.definition.specs.Rules.{namesLead};
 ghost use Rattle.plain.specs.Plain.{slotsOf, parsedIn};
 ghost use Rattle.plain.specs.Keyed.{keyedOf};
-ghost use Rattle.names.specs.Names.{endsSo, firstLike, lastLike, isNamed, wordsFrom, occurs, newIf, firstNonzero, counted, stateNames, namesIn};
+ghost use Rattle.names.specs.Names.{endsSo, lastLike, isNamed, wordsFrom, occurs, newIf, firstNonzero, counted, stateNames, namesIn};
 
 // Whether the text of a cell is w, byte by byte.
 pub fn is_at(text: &[u8], at: u32, len: u32, w: &[u8]) -> bool
@@ -54,52 +54,6 @@ fn ends_so(tail: &[u8], at: usize, before: u8, last: u8) -> bool
     tail[at - 1] == before
 }
 
-// The first of `count` rows from `from` on whose name may end so; `count` if there is none.
-fn next_like(
-    states: &[[u32; 24]],
-    from: usize,
-    count: usize,
-    tail: &[u8],
-    before: u8,
-    last: u8,
-) -> usize
-    requires { ⌜ (from ≤ count) × (count ≤ length (now states)) ⌝ }
-    ensures { λ r. ⌜ r ≡ from + firstLike (now (tail .entry)) before last (nameCells (drop from (take count (now (states .entry))))) ⌝ }
-    ensures { λ r. ⌜ r ≤ count ⌝ }
-{
-    let mut i = from;
-    while i < count {
-        if ends_so(tail, index(states[i][StateColumn::NAME]), before, last) {
-            return i;
-        }
-        i += 1;
-    }
-    i
-}
-
-// For a w of two bytes and more: names often begin alike and differ in their last bytes, so only rows with those are compared.
-fn find_long(states: &[[u32; 24]], count: usize, text: &[u8], w: &[u8]) -> usize
-    requires { ⌜ count ≤ length (now states) ⌝ }
-    requires { ⌜ (2 ≤ length (now w)) × (length (now w) ≤ length (now text)) ⌝ }
-    ensures { λ r. ⌜ r ≡ findName (now (text .entry)) (nameCells (take count (now (states .entry)))) (now (w .entry)) ⌝ }
-    ensures { λ r. ⌜ r ≤ count ⌝ }
-{
-    let start = w.len() - 2;
-    let before = w[start];
-    let last = w[start + 1];
-    let tail = &text[start..];
-    let mut i = next_like(states, 0, count, tail, before, last);
-    while i < count {
-        let at = states[i][StateColumn::NAME];
-        let len = states[i][StateColumn::NAME_LENGTH];
-        if is_at(text, at, len, w) {
-            return i;
-        }
-        i = next_like(states, i + 1, count, tail, before, last);
-    }
-    i
-}
-
 // For any w.
 fn find_short(states: &[[u32; 24]], count: usize, text: &[u8], w: &[u8]) -> usize
     requires { ⌜ count ≤ length (now states) ⌝ }
@@ -116,18 +70,6 @@ fn find_short(states: &[[u32; 24]], count: usize, text: &[u8], w: &[u8]) -> usiz
         i += 1;
     }
     i
-}
-
-// The first of `count` rows whose name is w, from 0; `count` if there is none.
-pub fn find_state(states: &[[u32; 24]], count: usize, text: &[u8], w: &[u8]) -> usize
-    requires { ⌜ count ≤ length (now states) ⌝ }
-    ensures { λ r. ⌜ r ≡ findName (now (text .entry)) (nameCells (take count (now (states .entry)))) (now (w .entry)) ⌝ }
-    ensures { λ r. ⌜ r ≤ count ⌝ }
-{
-    if (w.len() < 2) | (text.len() < w.len()) {
-        return find_short(states, count, text, w);
-    }
-    find_long(states, count, text, w)
 }
 
 // Whether `near` is one of the first `count` rows and its name is w.
@@ -159,7 +101,8 @@ fn last_like(states: &[[u32; 24]], count: usize, tail: &[u8], before: u8, last: 
     0
 }
 
-// For a w of two bytes and more, among names that are distinct: from the last row down, since a name that comes again was often new not long ago.
+// For a w of two bytes and more: names often begin alike and differ in their last bytes, so only rows with those are compared. From the last row down: a chart
+// mostly names states that stand near.
 fn find_last(states: &[[u32; 24]], count: usize, text: &[u8], w: &[u8]) -> usize
     requires { ⌜ count ≤ length (now states) ⌝ }
     requires { ⌜ (2 ≤ length (now w)) × (length (now w) ≤ length (now text)) ⌝ }
@@ -183,8 +126,9 @@ fn find_last(states: &[[u32; 24]], count: usize, text: &[u8], w: &[u8]) -> usize
     count
 }
 
-// As `find_state`, for names that are distinct, as they are where question 2 is yes: then any row that has the name is the first. The row `near` is looked at first.
-pub fn find_apart(states: &[[u32; 24]], count: usize, text: &[u8], w: &[u8], near: usize) -> usize
+// The first of `count` rows whose name is w, from 0; `count` if there is none. Names are distinct where question 2 is yes, so any row that has the name is the
+// first; the row `near` is looked at before the others.
+pub fn find_state(states: &[[u32; 24]], count: usize, text: &[u8], w: &[u8], near: usize) -> usize
     requires { ⌜ count ≤ length (now states) ⌝ }
     requires { ⌜ namesLead (now text) (nameCells (take count (now states))) 0 (nameCells (take count (now states))) ≡ true ⌝ }
     ensures { λ r. ⌜ r ≡ findName (now (text .entry)) (nameCells (take count (now (states .entry)))) (now (w .entry)) ⌝ }
@@ -205,7 +149,7 @@ fn find_name(states: &[[u32; 24]], text: &[u8], w: &[u8], near: usize) -> usize
     ensures { λ r. ⌜ r ≡ findName (now (text .entry)) (nameCells (now (states .entry))) (now (w .entry)) ⌝ }
     ensures { λ r. ⌜ r ≤ length (now (states .entry)) ⌝ }
 {
-    find_apart(states, states.len(), text, w, near)
+    find_state(states, states.len(), text, w, near)
 }
 
 // Whether w is one of the words of v from `from` on.

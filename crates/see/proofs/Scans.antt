@@ -98,30 +98,6 @@ child-cons p s x xs = go (sameList 1 p x) refl (eqb s (num x 2)) refl where
   go true e false f = rw (e, listed) (rw (f, among))
   go false e d f = rw (e, listed)
 
-child-hit : (p s : ℕ) (xs : Table) (m : Row) → sameList 1 p m && eqb s (num m 2) ≡ true → isChildIn p s (xs ++ m ∷ []) ≡ true
-child-hit p s [] m e = child-cons p s m [] ∙ ap (λ (b : Bool). b || isChildIn p s []) e
-child-hit p s (x ∷ xs) m e = child-cons p s x (xs ++ m ∷ []) ∙ (ap (λ (b : Bool). (sameList 1 p x && eqb s (num x 2)) || b) (child-hit p s xs m e) ∙ or-true (sameList 1 p x && eqb s (num x 2))) where
-  or-true : (b : Bool) → b || true ≡ true
-  or-true true = refl
-  or-true false = refl
-
-child-miss : (p s : ℕ) (xs : Table) (m : Row) → sameList 1 p m && eqb s (num m 2) ≡ false → isChildIn p s (xs ++ m ∷ []) ≡ isChildIn p s xs
-child-miss p s [] m e = child-cons p s m [] ∙ ap (λ (b : Bool). b || isChildIn p s []) e
-child-miss p s (x ∷ xs) m e = child-cons p s x (xs ++ m ∷ []) ∙ (ap (λ (b : Bool). (sameList 1 p x && eqb s (num x 2)) || b) (child-miss p s xs m e) ∙ sym (child-cons p s x xs))
-
-pub child-here : (p s : ℕ) (t : Table) (k j : ℕ) → k ≡ suc j → j < length t → sameList 1 p (getD t j []) && eqb s (num (getD t j []) 2) ≡ true → true ≡ isChildIn p s (take k t)
-child-here p s t k j e h f =
-    subst (λ (m : ℕ). true ≡ isChildIn p s (take m t)) (sym e) (sym (ap (isChildIn p s) (take-suc t j [] h) ∙ child-hit p s (take j t) (getD t j []) f))
-
-pub child-before : (p s : ℕ) (t : Table) (k j : ℕ) → k ≡ suc j → j < length t → sameList 1 p (getD t j []) && eqb s (num (getD t j []) 2) ≡ false → isChildIn p s (take j t) ≡ isChildIn p s (take k t)
-child-before p s t k j e h f =
-    subst (λ (m : ℕ). isChildIn p s (take j t) ≡ isChildIn p s (take m t)) (sym e) (sym (ap (isChildIn p s) (take-suc t j [] h) ∙ child-miss p s (take j t) (getD t j []) f))
-
-pub child-none : (p s : ℕ) (t : Table) (k : ℕ) → k ≡ 0 → false ≡ isChildIn p s (take k t)
-unfolding isChildIn
-child-none p s t zero e = refl
-child-none p s t (suc k) e = absurd (omega arith)
-
 -- ---- closing
 
 pub close-none : (g : ℕ) (t : Table) (k c : ℕ) → c ≡ 0 → record { met = 0; current = regionId 0; kept = 0 } ≡ closedAt g t k c

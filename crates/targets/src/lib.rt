@@ -6,7 +6,7 @@ use definition::codes::Kind;
 use definition::codes::ListKind;
 use definition::codes::Tag;
 use fill::TextCell;
-use names::find_apart;
+use names::find_state;
 use nesting::names_state;
 use rows::index;
 use texts::key_cell;
@@ -63,7 +63,7 @@ fn enter_name(
     ensures { λ r. ⌜ now (states .exit) ≡ placedRow (now (states .entry)) count r (record { at = off + 1; len = len }) ⌝ }
 {
     let end = off + len;
-    let found = find_apart(states, count, text, &text[off..end], near);
+    let found = find_state(states, count, text, &text[off..end], near);
     if found < count {
         return found;
     }

@@ -9,13 +9,13 @@ use Rattle.names.proofs.find_name.Statement.{statement}
 use Rattle.names.proofs.find_name.Tie as tie
 use Rattle.names.proofs.find_name.Reads as reads
 use Rattle.names.proofs.find_name.Lts as lts
-use Rattle.names.proofs.find_apart.Reads as find-apart-reads
+use Rattle.names.proofs.find_state.Reads as find-state-reads
 
-find-apart-requires : tie.Need-find-apart-requires
-find-apart-requires c κs = (omega arith, ap (λ (rs : List (List ℕ)). namesLead (c .before .before .args .text .now) (nameCells rs) 0 (nameCells rs)) (take-length (c .before .before .args .states .now)) ∙ c .before .before .pre)
+find-state-requires : tie.Need-find-state-requires
+find-state-requires c κs = (omega arith, ap (λ (rs : List (List ℕ)). namesLead (c .before .before .args .text .now) (nameCells rs) 0 (nameCells rs)) (take-length (c .before .before .args .states .now)) ∙ c .before .before .pre)
 
 returns : tie.Need-returns
-returns c = (c .find-apart .ensures .0 ∙ ap (λ (rs : List (List ℕ)). findName (c .before .before .before .args .text .now) (nameCells rs) (c .before .before .before .args .w .now)) (take-length (c .before .before .before .args .states .now)), c .find-apart .ensures .1)
+returns c = (c .find-state .ensures .0 ∙ ap (λ (rs : List (List ℕ)). findName (c .before .before .before .args .text .now) (nameCells rs) (c .before .before .before .args .w .now)) (take-length (c .before .before .before .args .states .now)), c .find-state .ensures .1)
 
 pub find-name-spec : {M : Type 1} → statement M
-find-name-spec = tie.close (tie.spec find-apart-requires returns)
+find-name-spec = tie.close (tie.spec find-state-requires returns)

@@ -2,7 +2,6 @@ use Rattle.see.proofs.Scans.{first-none}
 use Rattle.see.proofs.Nexts.{with-met, with-there, first-next, first-this, first-other}
 use Rattle.see.specs.Scans.{firstWith}
 use Rattle.plan.specs.Seen.{firstChildOr}
-use native.Mathlib.Omega.{arith}
 use mathlib.Core.Path.{_≡_, _∙_}
 use Prim.Native.Nat.{_+_, _-_, _≤_}
 use lib.ListN.{length, drop}

@@ -1,9 +1,9 @@
 use Rattle.see.proofs.Nexts.{block-begins, block-more, block-with, block-without}
 use Rattle.see.specs.Scans.{firstWith}
 use native.Mathlib.Omega.{arith}
-use mathlib.Core.Path.{_≡_, refl, sym, ap, _∙_}
+use mathlib.Core.Path.{_≡_}
 use Prim.Native.Nat.{_+_, _-_, _≤_}
-use lib.ListN.{length, drop}
+use lib.ListN.{drop}
 use borrow.Author.Needs.{needs}
 use Rattle.see.proofs.is_block_without.Statement.{statement}
 use Rattle.see.proofs.is_block_without.Tie as tie

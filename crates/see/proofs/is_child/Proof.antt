@@ -1,7 +1,6 @@
 use Rattle.see.proofs.Nexts.{with-met, with-there, child-next, child-this, child-later, child-no}
 use Rattle.see.specs.Scans.{firstWith, isChildIn}
 use Rattle.definition.specs.Rows.{sameList}
-use native.Mathlib.Omega.{arith}
 use mathlib.Core.Path.{_≡_, _∙_}
 use Prim.Native.Nat.{_+_, _-_, _≤_}
 use lib.ListN.{length, drop}

@@ -1,7 +1,7 @@
 use Rattle.see.proofs.Nexts.{with-here, with-later, with-none}
 use Rattle.see.specs.Scans.{firstWith}
 use native.Mathlib.Omega.{arith}
-use mathlib.Core.Path.{_≡_, refl, sym, ap, _∙_}
+use mathlib.Core.Path.{_≡_, refl}
 use Prim.Native.Nat.{_+_, _-_, _≤_}
 use lib.ListN.{length, drop}
 use borrow.Author.Needs.{needs}

@@ -11,27 +11,27 @@ use Rattle.targets.proofs.enter_name.Tie as tie
 use Rattle.targets.proofs.enter_name.Reads as reads
 use Rattle.targets.proofs.enter_name.Lts as lts
 use Rattle.targets.proofs.put_state.Reads as put-state-reads
-use Rattle.names.proofs.find_apart.Reads as find-apart-reads
+use Rattle.names.proofs.find_state.Reads as find-state-reads
 
 -- src/lib.rt:44:15
 add-end : tie.Need-add-end
 add-end c = search needs
 
 -- src/lib.rt:45:45
-sub-find-apart : tie.Need-sub-find-apart
-sub-find-apart c = search needs
+sub-find-state : tie.Need-sub-find-state
+sub-find-state c = search needs
 
 -- src/lib.rt:45:45
-part-find-apart-start : tie.Need-part-find-apart-start
-part-find-apart-start c = search needs
+part-find-state-start : tie.Need-part-find-state-start
+part-find-state-start c = search needs
 
 -- src/lib.rt:45:45
-part-find-apart-end : tie.Need-part-find-apart-end
-part-find-apart-end c = search needs
+part-find-state-end : tie.Need-part-find-state-end
+part-find-state-end c = search needs
 
 -- src/lib.rt:45:9
-find-apart-requires : tie.Need-find-apart-requires
-find-apart-requires c κs = search needs
+find-state-requires : tie.Need-find-state-requires
+find-state-requires c κs = search needs
 
 -- src/lib.rt:47:9
 same-length : tie.Need-same-length
@@ -39,7 +39,7 @@ same-length c = search needs
 
 -- src/lib.rt:47:9
 returns : tie.Need-returns
-returns c = ((c .before .find-apart .ensures .0 ∙ ap (findName (c .before .before .before .before .before .args .text .now) (nameCells (take (c .before .before .before .before .before .args .count) (c .before .before .before .before .before .args .states .now)))) (part-at (c .before .before .before .before .before .args .text .now) (c .before .before .before .before .before .args .off) (c .before .before .before .before .before .args .len))), placed-known _ _ _ _ (c .if1 .taken))
+returns c = ((c .before .find-state .ensures .0 ∙ ap (findName (c .before .before .before .before .before .args .text .now) (nameCells (take (c .before .before .before .before .before .args .count) (c .before .before .before .before .before .args .states .now)))) (part-at (c .before .before .before .before .before .args .text .now) (c .before .before .before .before .before .args .off) (c .before .before .before .before .before .args .len))), placed-known _ _ _ _ (c .if1 .taken))
 
 -- src/lib.rt:49:31
 add-put-state : tie.Need-add-put-state
@@ -55,7 +55,7 @@ cast-put-state-2 c = search needs
 
 -- src/lib.rt:49:5
 put-state-requires : tie.Need-put-state-requires
-put-state-requires c κs = room _ (c .before .before .find-apart .result) _ (c .before .if1 .left) (subst (λ (k : ℕ). countAfter (c .before .before .before .before .before .before .args .count) k ≤ length (c .before .before .before .before .before .before .args .states .now)) (sym (c .before .before .find-apart .ensures .0 ∙ ap (findName (c .before .before .before .before .before .before .args .text .now) (nameCells (take (c .before .before .before .before .before .before .args .count) (c .before .before .before .before .before .before .args .states .now)))) (part-at (c .before .before .before .before .before .before .args .text .now) (c .before .before .before .before .before .before .args .off) (c .before .before .before .before .before .before .args .len)))) (c .before .before .before .before .before .before .pre .1 .1 .0 .1))
+put-state-requires c κs = room _ (c .before .before .find-state .result) _ (c .before .if1 .left) (subst (λ (k : ℕ). countAfter (c .before .before .before .before .before .before .args .count) k ≤ length (c .before .before .before .before .before .before .args .states .now)) (sym (c .before .before .find-state .ensures .0 ∙ ap (findName (c .before .before .before .before .before .before .args .text .now) (nameCells (take (c .before .before .before .before .before .before .args .count) (c .before .before .before .before .before .before .args .states .now)))) (part-at (c .before .before .before .before .before .before .args .text .now) (c .before .before .before .before .before .before .args .off) (c .before .before .before .before .before .before .args .len)))) (c .before .before .before .before .before .before .pre .1 .1 .0 .1))
 
 -- src/lib.rt:37:1
 same-length-2 : tie.Need-same-length-2
@@ -63,17 +63,17 @@ same-length-2 c = search needs
 
 -- src/lib.rt:37:1
 returns-2 : tie.Need-returns-2
-returns-2 c = ((c .before .before .before .before .find-apart .ensures .0 ∙ ap (findName (c .before .before .before .before .before .before .before .before .args .text .now) (nameCells (take (c .before .before .before .before .before .before .before .before .args .count) (c .before .before .before .before .before .before .before .before .args .states .now)))) (part-at (c .before .before .before .before .before .before .before .before .args .text .now) (c .before .before .before .before .before .before .before .before .args .off) (c .before .before .before .before .before .before .before .before .args .len))), c .before .put-state .ensures ∙ placed-new _ _ _ _ (c .before .before .before .if1 .left))
+returns-2 c = ((c .before .before .before .before .find-state .ensures .0 ∙ ap (findName (c .before .before .before .before .before .before .before .before .args .text .now) (nameCells (take (c .before .before .before .before .before .before .before .before .args .count) (c .before .before .before .before .before .before .before .before .args .states .now)))) (part-at (c .before .before .before .before .before .before .before .before .args .text .now) (c .before .before .before .before .before .before .before .before .args .off) (c .before .before .before .before .before .before .before .before .args .len))), c .before .put-state .ensures ∙ placed-new _ _ _ _ (c .before .before .before .if1 .left))
 
 pub enter-name-spec : {M : Type 1} → statement M
 enter-name-spec =
     tie.close
     (tie.spec
     add-end
-    sub-find-apart
-    part-find-apart-start
-    part-find-apart-end
-    find-apart-requires
+    sub-find-state
+    part-find-state-start
+    part-find-state-end
+    find-state-requires
     same-length
     returns
     add-put-state
