@@ -163,51 +163,50 @@ stands-now out pos s x h = ap (λ (o : List ℕ). slotBytes o s) (sym (take-appe
 
 module _ (raw : List ℕ) (ps : List Pair) (c : ℕ) (many : length ps ≡ 16) (size : ℕ) (a b : Slot) (x y : List ℕ) where
   module _ (out : List ℕ) (slots : List Slot) (pos i : ℕ) (K : Copying raw ps c size a b x y out slots pos i) where
-    abbrev here : Pair
-    here = getD ps i noPair
-
-    abbrev v : List ℕ
-    v = read raw (here .value)
-
-    left : i < atMost16 c → lengthRead raw (drop i (take c ps)) ≡ length v + lengthRead raw (drop (i + 1) (take c ps))
-    unfolding lengthRead
-    left h = ap (lengthRead raw) (next-most ps c many i noPair h)
-
-    pub copy-fits : i < atMost16 c → pos + length v ≤ length out
-    copy-fits h = omega (arith, left h, K .room, K .long)
-
-    pub copy-small : i < atMost16 c → (end : ℕ) → end ≡ pos + length v → (pos ≤ end) × (end < 65536)
-    copy-small h end e = (omega (arith, e), omega (arith, e, copy-fits h, K .long, K .short))
-
-    pub copying-more : i < atMost16 c → (out′ : List ℕ) (end : ℕ) (s : Slot) → out′ ≡ laid out pos v → end ≡ pos + length v → s ≡ record { code = here .code; at = pos; len = end - pos }
-        → Copying raw ps c size a b x y out′ (set slots i s) end (i + 1)
-    copying-more h out′ end s eo ee es =
-        let l : Laid out pos v out′ end = record { fits = copy-fits h; all = eo; ends = ee } in
-        record {
-          short = K .short;
-          long = now-length out pos v out′ end l ∙ K .long;
-          within = omega arith;
-          full = length-set slots i s ∙ K .full;
-          room = omega (arith, left h, K .room, ee);
-          one = stays out pos v out′ end l a x (K .one);
-          two = stays out pos v out′ end l b y (K .two);
-          values = λ q.
-              let w : List ℕ = take end out′ ++ q in
-              ap (loadsIn w) (ap (λ (n : ℕ). take n (set slots i s)) (add-one i) ∙ take-suc-set slots i s (omega (arith, K .full)))
-              ∙ loads-append w (take i slots) (s ∷ [])
-              ∙ ap₂ _++_ (ap (λ (o : List ℕ). loadsIn o (take i slots)) (now-front out pos v out′ end l q) ∙ K .values (v ++ q)) (last q l)
-              ∙ sym (ap (readLoads raw) (ap (λ (n : ℕ). take n ps) (add-one i) ∙ take-suc ps i noPair (omega (arith, many))) ∙ read-append raw (take i ps) (here ∷ []));
-        }
-      where
-        last : (q : List ℕ) → Laid out pos v out′ end → loadsIn (take end out′ ++ q) (s ∷ []) ≡ readLoads raw (here ∷ [])
-        last q l =
-            unfold loadsIn readLoads in
-            λ j. record { key = ap (λ (z : Slot). z .code) es j; bytes = stands out pos v out′ end l (here .code) s es q j } ∷ []
-
     -- the values are all there
     pub copied-all : atMost16 c ≤ i → loadsIn out (take c slots) ≡ readLoads raw (take c ps)
     copied-all h =
         ap₂ loadsIn (sym (take-append-drop pos out)) (sym (take-most slots c (K .full) i (K .within) h)) ∙ K .values (drop pos out) ∙ ap (readLoads raw) (take-most ps c many i (K .within) h)
+
+    module _ (p : Pair) (ep : p ≡ getD ps i noPair) (h : i < atMost16 c) where
+      abbrev v : List ℕ
+      v = read raw (p .value)
+
+      left : lengthRead raw (drop i (take c ps)) ≡ length v + lengthRead raw (drop (i + 1) (take c ps))
+      unfolding lengthRead
+      left = ap (lengthRead raw) (next-most ps c many i noPair h ∙ ap (λ (z : Pair). z ∷ drop (i + 1) (take c ps)) (sym ep))
+
+      pub copy-fits : pos + length v ≤ length out
+      copy-fits = omega (arith, left, K .room, K .long)
+
+      pub copy-small : (end : ℕ) → end ≡ pos + length v → (pos ≤ end) × (end < 65536)
+      copy-small end e = (omega (arith, e), omega (arith, e, copy-fits, K .long, K .short))
+
+      pub copying-more : (out′ : List ℕ) (end : ℕ) (s : Slot) → out′ ≡ laid out pos v → end ≡ pos + length v → s ≡ record { code = p .code; at = pos; len = end - pos }
+          → Copying raw ps c size a b x y out′ (set slots i s) end (i + 1)
+      copying-more out′ end s eo ee es =
+          let l : Laid out pos v out′ end = record { fits = copy-fits; all = eo; ends = ee } in
+          record {
+            short = K .short;
+            long = now-length out pos v out′ end l ∙ K .long;
+            within = omega arith;
+            full = length-set slots i s ∙ K .full;
+            room = omega (arith, left, K .room, ee);
+            one = stays out pos v out′ end l a x (K .one);
+            two = stays out pos v out′ end l b y (K .two);
+            values = λ q.
+                let w : List ℕ = take end out′ ++ q in
+                ap (loadsIn w) (ap (λ (n : ℕ). take n (set slots i s)) (add-one i) ∙ take-suc-set slots i s (omega (arith, K .full)))
+                ∙ loads-append w (take i slots) (s ∷ [])
+                ∙ ap₂ _++_ (ap (λ (o : List ℕ). loadsIn o (take i slots)) (now-front out pos v out′ end l q) ∙ K .values (v ++ q)) (last q l)
+                ∙ sym (ap (readLoads raw) (ap (λ (n : ℕ). take n ps) (add-one i) ∙ take-suc ps i noPair (omega (arith, many)) ∙ ap (λ (z : Pair). take i ps ++ (z ∷ [])) (sym ep))
+                ∙ read-append raw (take i ps) (p ∷ []));
+          }
+        where
+          last : (q : List ℕ) → Laid out pos v out′ end → loadsIn (take end out′ ++ q) (s ∷ []) ≡ readLoads raw (p ∷ [])
+          last q l =
+              unfold loadsIn readLoads in
+              λ j. record { key = ap (λ (z : Slot). z .code) es j; bytes = stands out pos v out′ end l (p .code) s es q j } ∷ []
 
 -- ---- a text only where there is one
 

@@ -1,17 +1,18 @@
 // An event's parts as they are read: each stands unescaped in one slice, the event's own bytes or a copy.
 use definition::codes::Kind;
-use event::Described;
+use event::Head;
 use lines::part_of;
 use lines::unescape;
 use parts::Part;
 use parts::at_most_16;
+use parts::pair_at;
 use parts::place;
 ghost use mathlib.Core.Path.{_≡_};
 ghost use Prim.Native.Nat.{_+_, _-_, _<_, _≤_};
 ghost use mathlib.Core.List.{_++_};
 ghost use lib.ListN.{length, take, drop};
 ghost use Rattle.definition.specs.Look.{payload};
-ghost use Rattle.event.specs.Described.{read};
+ghost use Rattle.event.specs.Described.{read, describedBy};
 ghost use Rattle.plain.specs.Plain.{isPlain, plainly, spanOf, PlainOf, textPart, slotBytes, slotsOf, loadsIn, parsedIn, parsedRaw, Space};
 ghost use Rattle.plain.specs.Keyed.{keyPlace, keyedOf, isMarked, keyedBytes};
 
@@ -30,6 +31,12 @@ pub struct Plain {
     pub name: Slot,
     pub text: Slot,
     pub slots: [Slot; Plain::SLOTS],
+}
+
+/// An event's parts where they are written, and whether no part has an escape, so that what is written is what is read.
+pub struct Placed {
+    pub plain: bool,
+    pub parts: Plain,
 }
 
 impl Plain {
@@ -62,33 +69,6 @@ fn is_plain_part(p: Part) -> bool
     p.len == p.size
 }
 
-// Whether no part has an escape, so that what is written is what is read.
-pub fn is_plain(d: Described) -> bool
-    ensures { λ r. ⌜ r ≡ plainly d ⌝ }
-{
-    let name = d.name;
-    let text = d.text;
-    let count = d.count;
-    let pairs = d.pairs;
-    if !is_plain_part(name) {
-        return false;
-    }
-    if !is_plain_part(text) {
-        return false;
-    }
-    let n = at_most_16(count);
-    let mut i = 0;
-    while i < n {
-        let p = pairs[i];
-        let v = p.value;
-        if !is_plain_part(v) {
-            return false;
-        }
-        i += 1;
-    }
-    true
-}
-
 fn slot_of(code: u32, p: Part) -> Slot
     ensures { λ r. ⌜ r ≡ spanOf code p ⌝ }
 {
@@ -101,35 +81,41 @@ fn slot_of(code: u32, p: Part) -> Slot
     }
 }
 
-// The parts where they are written.
-pub fn plain_of(d: Described) -> Plain
-    ensures { λ r. ⌜ PlainOf d r ⌝ }
+pub fn plain_of(d: Head, pairs: &[[u16; 8]]) -> Placed
+    requires { ⌜ length (now pairs) ≡ 16 ⌝ }
+    ensures plain { λ r. ⌜ r .plain ≡ plainly (describedBy d (now (pairs .entry))) ⌝ }
+    ensures parts { λ r. ⌜ PlainOf (describedBy d (now (pairs .entry))) (r .parts) ⌝ }
 {
     let kind = d.kind;
     let tag = d.tag;
     let count = d.count;
-    let pairs = d.pairs;
     let dn = d.name;
     let dt = d.text;
     let name = slot_of(0, dn);
     let text = slot_of(0, dt);
     let n = at_most_16(count);
     let mut slots = [name; Plain::SLOTS];
+    let mut plain = is_plain_part(dn) & is_plain_part(dt);
     let mut i = 0;
     while i < n {
-        let p = pairs[i];
+        let p = pair_at(pairs, i);
         let v = p.value;
         let s = slot_of(p.code, v);
         slots[i] = s;
+        plain = plain & is_plain_part(v);
         i += 1;
     }
-    Plain {
+    let parts = Plain {
         kind: kind,
         tag: tag,
         count: count,
         name: name,
         text: text,
         slots: slots,
+    };
+    Placed {
+        plain: plain,
+        parts: parts,
     }
 }
 
@@ -171,14 +157,14 @@ fn text_of(kind: u32, p: Part) -> Part
 }
 
 // The parts unescaped into a copy.
-pub fn unescape_all(out: &mut [u8], raw: &[u8], d: Described) -> Plain
-    requires { ⌜ Space (now raw) d (length (now out)) ⌝ }
-    ensures { λ r. ⌜ parsedIn (now (out .exit)) r ≡ parsedRaw (now (raw .entry)) d ⌝ }
+pub fn unescape_all(out: &mut [u8], raw: &[u8], d: Head, pairs: &[[u16; 8]]) -> Plain
+    requires { ⌜ length (now pairs) ≡ 16 ⌝ }
+    requires { ⌜ Space (now raw) (describedBy d (now pairs)) (length (now out)) ⌝ }
+    ensures { λ r. ⌜ parsedIn (now (out .exit)) r ≡ parsedRaw (now (raw .entry)) (describedBy d (now (pairs .entry))) ⌝ }
 {
     let kind = d.kind;
     let tag = d.tag;
     let count = d.count;
-    let pairs = d.pairs;
     let dn = d.name;
     let given = d.text;
     let dt = text_of(kind, given);
@@ -191,7 +177,7 @@ pub fn unescape_all(out: &mut [u8], raw: &[u8], d: Described) -> Plain
     let mut pos = second;
     let mut i = 0;
     while i < n {
-        let p = pairs[i];
+        let p = pair_at(pairs, i);
         let v = p.value;
         let end = copy_part(out, pos, raw, v);
         let s = slot_at(p.code, pos, end);
