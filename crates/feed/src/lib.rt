@@ -1,9 +1,9 @@
 // One event in form on slices that are long enough and in order: the questions 5 to 15, and what an accepted event leaves.
 use definition::Position;
-use event::Described;
+use event::Head;
+use plain::Placed;
 use plain::Plain;
 use plain::Slot;
-use plain::is_plain;
 use plain::plain_of;
 use plain::unescape_all;
 use plan::ChartPlan;
@@ -26,7 +26,8 @@ use write::write;
 ghost use mathlib.Core.Path.{_≡_};
 ghost use Rattle.definition.specs.Limits.{limits01};
 ghost use Rattle.definition.specs.Reader as R;
-ghost use Rattle.event.specs.Described.{described};
+ghost use lib.ListN.{length};
+ghost use Rattle.event.specs.Described.{described, describedBy};
 ghost use Rattle.plain.specs.Plain.{parsedIn, parsedRaw};
 ghost use Rattle.questions.specs.Lent.{tables, lent, firstTwo};
 ghost use Rattle.settle.specs.Settled.{InForm, Settles};
@@ -185,14 +186,16 @@ fn feed_copy(
     text: &mut [u8],
     p: Position,
     raw: &[u8],
-    d: Described,
+    d: Head,
+    pairs: &[[u16; 8]],
 ) -> Answer
-    requires { ⌜ d ≡ described (now raw) ⌝ }
-    requires { ⌜ InForm (lent (tables (now chart) (now states) (now transitions) (now regions) (now entries) (now invokes) (now datums) (now parameters) (now members) (now opened) (now names) (now pending)) (now text)) p (parsedRaw (now raw) d) ⌝ }
-    ensures { λ r. ⌜ Answers (lent (tables (now (chart .entry)) (now (states .entry)) (now (transitions .entry)) (now (regions .entry)) (now (entries .entry)) (now (invokes .entry)) (now (datums .entry)) (now (parameters .entry)) (now (members .entry)) (now (opened .entry)) (now (names .entry)) (now (pending .entry))) (now (text .entry))) p (parsedRaw (now (raw .entry)) d) (given (r .number) (r .position) (lent (tables (now (chart .exit)) (now (states .exit)) (now (transitions .exit)) (now (regions .exit)) (now (entries .exit)) (now (invokes .exit)) (now (datums .exit)) (now (parameters .exit)) (now (members .exit)) (now (opened .exit)) (now (names .exit)) (now (pending .exit))) (now (text .exit)))) ⌝ }
+    requires { ⌜ length (now pairs) ≡ 16 ⌝ }
+    requires { ⌜ describedBy d (now pairs) ≡ described (now raw) ⌝ }
+    requires { ⌜ InForm (lent (tables (now chart) (now states) (now transitions) (now regions) (now entries) (now invokes) (now datums) (now parameters) (now members) (now opened) (now names) (now pending)) (now text)) p (parsedRaw (now raw) (describedBy d (now pairs))) ⌝ }
+    ensures { λ r. ⌜ Answers (lent (tables (now (chart .entry)) (now (states .entry)) (now (transitions .entry)) (now (regions .entry)) (now (entries .entry)) (now (invokes .entry)) (now (datums .entry)) (now (parameters .entry)) (now (members .entry)) (now (opened .entry)) (now (names .entry)) (now (pending .entry))) (now (text .entry))) p (parsedRaw (now (raw .entry)) (describedBy d (now (pairs .entry)))) (given (r .number) (r .position) (lent (tables (now (chart .exit)) (now (states .exit)) (now (transitions .exit)) (now (regions .exit)) (now (entries .exit)) (now (invokes .exit)) (now (datums .exit)) (now (parameters .exit)) (now (members .exit)) (now (opened .exit)) (now (names .exit)) (now (pending .exit))) (now (text .exit)))) ⌝ }
 {
     let mut out = [0u8; Plain::COPY];
-    let pl = unescape_all(&mut out, raw, d);
+    let pl = unescape_all(&mut out, raw, d, pairs);
     feed_parsed(
         chart,
         states,
@@ -230,14 +233,17 @@ pub fn feed(
     text: &mut [u8],
     p: Position,
     raw: &[u8],
-    d: Described,
+    d: Head,
+    pairs: &[[u16; 8]],
 ) -> Answer
     requires { ⌜ firstTwo (lent (tables (now chart) (now states) (now transitions) (now regions) (now entries) (now invokes) (now datums) (now parameters) (now members) (now opened) (now names) (now pending)) (now text)) p ≡ 0 ⌝ }
-    requires { ⌜ d ≡ described (now raw) ⌝ }
+    requires { ⌜ length (now pairs) ≡ 16 ⌝ }
+    requires { ⌜ describedBy d (now pairs) ≡ described (now raw) ⌝ }
     requires { ⌜ d .number ≡ 0 ⌝ }
     ensures { λ r. ⌜ given (r .number) (r .position) (lent (tables (now (chart .exit)) (now (states .exit)) (now (transitions .exit)) (now (regions .exit)) (now (entries .exit)) (now (invokes .exit)) (now (datums .exit)) (now (parameters .exit)) (now (members .exit)) (now (opened .exit)) (now (names .exit)) (now (pending .exit))) (now (text .exit))) ≡ R.answerTo limits01 (lent (tables (now (chart .entry)) (now (states .entry)) (now (transitions .entry)) (now (regions .entry)) (now (entries .entry)) (now (invokes .entry)) (now (datums .entry)) (now (parameters .entry)) (now (members .entry)) (now (opened .entry)) (now (names .entry)) (now (pending .entry))) (now (text .entry))) p (R.event (now (raw .entry))) ⌝ }
 {
-    if is_plain(d) {
+    let w = plain_of(d, pairs);
+    if w.plain {
         return feed_parsed(
             chart,
             states,
@@ -254,7 +260,7 @@ pub fn feed(
             text,
             p,
             raw,
-            plain_of(d),
+            w.parts,
         );
     }
     feed_copy(
@@ -274,5 +280,6 @@ pub fn feed(
         p,
         raw,
         d,
+        pairs,
     )
 }

@@ -1,5 +1,6 @@
 use mathlib.Core.Path.{sym, subst}
 use Rattle.questions.specs.Lent.{tables, lent}
+use Rattle.event.specs.Described.{describedBy}
 use Rattle.plain.specs.Plain.{Parsed}
 use Rattle.settle.specs.Settled.{InForm}
 use Rattle.feed.proofs.Laws.{alike, room}
@@ -15,13 +16,13 @@ slice-aggregate-unescape-all : tie.Need-slice-aggregate-unescape-all
 slice-aggregate-unescape-all c = search needs
 
 unescape-all-requires : tie.Need-unescape-all-requires
-unescape-all-requires c κs = room (lent (tables (c .before .before .before .args .chart .now) (c .before .before .before .args .states .now) (c .before .before .before .args .transitions .now) (c .before .before .before .args .regions .now) (c .before .before .before .args .entries .now) (c .before .before .before .args .invokes .now) (c .before .before .before .args .datums .now) (c .before .before .before .args .parameters .now) (c .before .before .before .args .members .now) (c .before .before .before .args .opened .now) (c .before .before .before .args .names .now) (c .before .before .before .args .pending .now)) (c .before .before .before .args .text .now)) (c .before .before .before .args .p) (c .before .before .before .args .raw .now) (c .before .before .before .args .d) (c .before .before .before .pre .0)
+unescape-all-requires c κs = (c .before .before .before .pre .0, room (lent (tables (c .before .before .before .args .chart .now) (c .before .before .before .args .states .now) (c .before .before .before .args .transitions .now) (c .before .before .before .args .regions .now) (c .before .before .before .args .entries .now) (c .before .before .before .args .invokes .now) (c .before .before .before .args .datums .now) (c .before .before .before .args .parameters .now) (c .before .before .before .args .members .now) (c .before .before .before .args .opened .now) (c .before .before .before .args .names .now) (c .before .before .before .args .pending .now)) (c .before .before .before .args .text .now)) (c .before .before .before .args .p) (c .before .before .before .args .raw .now) (describedBy (c .before .before .before .args .d) (c .before .before .before .args .pairs .now)) (c .before .before .before .pre .1 .0))
 
 slice-aggregate-feed-parsed : tie.Need-slice-aggregate-feed-parsed
 slice-aggregate-feed-parsed c = search needs
 
 feed-parsed-requires : tie.Need-feed-parsed-requires
-feed-parsed-requires c κs = subst (λ (z : Parsed). InForm (lent (tables (c .before .before .before .before .before .before .before .before .before .before .before .before .before .before .before .before .before .before .before .args .chart .now) (c .before .before .before .before .before .before .before .before .before .before .before .before .before .before .before .before .before .before .before .args .states .now) (c .before .before .before .before .before .before .before .before .before .before .before .before .before .before .before .before .before .before .before .args .transitions .now) (c .before .before .before .before .before .before .before .before .before .before .before .before .before .before .before .before .before .before .before .args .regions .now) (c .before .before .before .before .before .before .before .before .before .before .before .before .before .before .before .before .before .before .before .args .entries .now) (c .before .before .before .before .before .before .before .before .before .before .before .before .before .before .before .before .before .before .before .args .invokes .now) (c .before .before .before .before .before .before .before .before .before .before .before .before .before .before .before .before .before .before .before .args .datums .now) (c .before .before .before .before .before .before .before .before .before .before .before .before .before .before .before .before .before .before .before .args .parameters .now) (c .before .before .before .before .before .before .before .before .before .before .before .before .before .before .before .before .before .before .before .args .members .now) (c .before .before .before .before .before .before .before .before .before .before .before .before .before .before .before .before .before .before .before .args .opened .now) (c .before .before .before .before .before .before .before .before .before .before .before .before .before .before .before .before .before .before .before .args .names .now) (c .before .before .before .before .before .before .before .before .before .before .before .before .before .before .before .before .before .before .before .args .pending .now)) (c .before .before .before .before .before .before .before .before .before .before .before .before .before .before .before .before .before .before .before .args .text .now)) (c .before .before .before .before .before .before .before .before .before .before .before .before .before .before .before .before .before .before .before .args .p) z) (sym (c .before .before .before .before .before .before .before .before .before .before .before .before .before .before .before .unescape-all .ensures)) (c .before .before .before .before .before .before .before .before .before .before .before .before .before .before .before .before .before .before .before .pre .1)
+feed-parsed-requires c κs = subst (λ (z : Parsed). InForm (lent (tables (c .before .before .before .before .before .before .before .before .before .before .before .before .before .before .before .before .before .before .before .args .chart .now) (c .before .before .before .before .before .before .before .before .before .before .before .before .before .before .before .before .before .before .before .args .states .now) (c .before .before .before .before .before .before .before .before .before .before .before .before .before .before .before .before .before .before .before .args .transitions .now) (c .before .before .before .before .before .before .before .before .before .before .before .before .before .before .before .before .before .before .before .args .regions .now) (c .before .before .before .before .before .before .before .before .before .before .before .before .before .before .before .before .before .before .before .args .entries .now) (c .before .before .before .before .before .before .before .before .before .before .before .before .before .before .before .before .before .before .before .args .invokes .now) (c .before .before .before .before .before .before .before .before .before .before .before .before .before .before .before .before .before .before .before .args .datums .now) (c .before .before .before .before .before .before .before .before .before .before .before .before .before .before .before .before .before .before .before .args .parameters .now) (c .before .before .before .before .before .before .before .before .before .before .before .before .before .before .before .before .before .before .before .args .members .now) (c .before .before .before .before .before .before .before .before .before .before .before .before .before .before .before .before .before .before .before .args .opened .now) (c .before .before .before .before .before .before .before .before .before .before .before .before .before .before .before .before .before .before .before .args .names .now) (c .before .before .before .before .before .before .before .before .before .before .before .before .before .before .before .before .before .before .before .args .pending .now)) (c .before .before .before .before .before .before .before .before .before .before .before .before .before .before .before .before .before .before .before .args .text .now)) (c .before .before .before .before .before .before .before .before .before .before .before .before .before .before .before .before .before .before .before .args .p) z) (sym (c .before .before .before .before .before .before .before .before .before .before .before .before .before .before .before .unescape-all .ensures)) (c .before .before .before .before .before .before .before .before .before .before .before .before .before .before .before .before .before .before .before .pre .1 .1)
 
 same-length : tie.Need-same-length
 same-length c = c .before .before .before .before .before .before .before .before .before .before .before .before .before .before .feed-parsed .kept .0
