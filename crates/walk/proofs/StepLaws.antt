@@ -1,25 +1,28 @@
 -- The walk line by line, as the code takes them.
-use Prim.Native.Nat.{ℕ, suc, _+_, _≤_, _<_}
+use Prim.Native.Nat.{ℕ, suc, _+_, _^_, _≤_, _<_}
 use mathlib.Core.Path.{_≡_, refl, sym, ap, _∙_, subst}
 use mathlib.Core.Bool.{Bool, true, false, _||_}
-use mathlib.Core.List.{List, [], _∷_}
+use mathlib.Core.List.{List}
 use native.Mathlib.Omega.{arith}
-use lib.Dec.{eqb, leb}
+use lib.Dec.{ltb, leb}
 use lib.ListN.{length, drop, set}
-use Rattle.definition.specs.Text.{str}
+use borrow.Author.Tests.{ltb-true}
+use Rattle.definition.specs.Text.{str, placeIn}
+use Rattle.definition.specs.Elements.{numberIn, keyNames, keyOf}
+use Rattle.definition.specs.Event as E
 use Rattle.definition.specs.Event.{Line, lineOf}
 use Rattle.definition.proofs.Base.{true-is-false}
-use Rattle.lines.specs.Lines.{hasHead}
+use Rattle.lines.specs.Lines.{hasHead, eventLength}
 use Rattle.lines.specs.Blocks.{all, isWithinLine}
 use Rattle.parts.specs.declared.Part.{Part}
 use Rattle.parts.specs.declared.Pair.{Pair}
 use Rattle.parts.specs.declared.Walked.{Walked}
-use Rattle.parts.specs.Parts.{noPairs, begun, broken, withKind, withName, withKey, withValue, withText, addedValue}
+use Rattle.parts.specs.Parts.{partAt, noPairs, begun, broken, withKind, withName, withKey, withValue, withText, addedValue}
 use Rattle.parts.proofs.CodeLaws.{value-full, value-added}
 use Rattle.walk.specs.declared.Lined.{Lined}
-use Rattle.walk.specs.declared.Walk.{Walk}
-use Rattle.walk.specs.Walk.{onEvent, onName, onKey, onValue, step, walked}
-use Rattle.walk.specs.Stream.{firstEvent, settled, outcome, endOf, lineIn, Takes, Reached, made}
+use Rattle.walk.specs.declared.Last.{Last}
+use Rattle.walk.specs.Walk.{keyFits, textFits, onEvent, onName, onKey, onValue, step, walked}
+use Rattle.walk.specs.Stream.{firstEvent, settled, lineIn, Takes, Reached, made, closed, Ends, Closes}
 use Rattle.walk.proofs.CodeLaws.{not-key}
 use Rattle.walk.proofs.LineIn.{line-head}
 use Rattle.walk.proofs.StreamLaws.{isOver, over-is, head-on, reached-start, reached-goes, reached-lost, takes-lost, broken-lost, reached-end}
@@ -59,6 +62,33 @@ module _ (s : List ℕ) (e : Lined) (t : Takes s 0 onEvent (withKind (e .code)) 
         reached-goes s (e .next) (withKind (e .code) begun) named (onName (e .next)) (withName (n .code) (n .part)) (n .next) (u .good q) (λ l. refl),
       )
 
+-- ---- a key's number is small
+
+number-small : (ns : List (List ℕ)) (w : List ℕ) → numberIn ns w ≤ length ns
+unfolding numberIn
+number-small ns w = go (ltb (placeIn ns w) (length ns)) refl
+  where
+    go : (p : Bool) → ltb (placeIn ns w) (length ns) ≡ p → numberIn ns w ≤ length ns
+    go true q = let z : numberIn ns w ≡ suc (placeIn ns w) = rw (q, numberIn) in omega (arith, z, ltb-true (placeIn ns w) (length ns) q)
+    go false q = let z : numberIn ns w ≡ 0 = rw (q, numberIn) in omega (arith, z)
+
+code-below : (at : ℕ) (l : Line) → onKey at l begun .code ≤ 28
+unfolding onKey begun broken withKey withText keyOf keyNames
+code-below at (E.event k) = omega arith
+code-below at (E.name n) = omega arith
+code-below at (E.key k) = go (keyFits k) refl
+  where
+    go : (p : Bool) → keyFits k ≡ p → onKey at (E.key k) begun .code ≤ 28
+    go true q = rw (q, onKey) (number-small keyNames k)
+    go false q = rw (q, onKey) (omega arith)
+code-below at (E.value v) = omega arith
+code-below at (E.text v) = go (textFits v) refl
+  where
+    go : (p : Bool) → textFits v ≡ p → onKey at (E.text v) begun .code ≤ 28
+    go true q = rw (q, onKey) (omega arith)
+    go false q = rw (q, onKey) (omega arith)
+code-below at E.junk = omega arith
+
 -- ---- a pair
 
 module _ (s : List ℕ) (at : ℕ) (kind tag : ℕ) (name : Part) (count : ℕ) (ps : List Pair) (re : Reached s at (made kind tag name count ps))
@@ -81,6 +111,11 @@ module _ (s : List ℕ) (at : ℕ) (kind tag : ℕ) (name : Part) (count : ℕ) 
     pub key-within : k .next ≤ length s
     key-within = key-reached .within
 
+    -- Any event before the key will do, so the one that is begun.
+    pub code-small : k .code < 2 ^ 16
+    unfolding withKey
+    code-small = omega (arith, code-below at (lineOf (lineIn s at)), ap (λ (w : Walked). w .code) (t .good o .does begun))
+
     module _ (v : Lined) (u : Takes s (k .next) (onValue (k .next)) (addedValue (v .part)) v) where
       pub value-lost : v .ok ≡ false → Lost s
       unfolding step withKey
@@ -97,12 +132,12 @@ module _ (s : List ℕ) (at : ℕ) (kind tag : ℕ) (name : Part) (count : ℕ) 
         unfolding withKey broken
         pairs-full f = broken-lost s (v .next) (addedValue (v .part) keyed) value-reached (sym (ap (λ (w : Walked). w .next) (value-full (v .part) keyed f)))
 
-        pub pair-reached : count < 16 → (x : Pair) → x ≡ record { code = k .code; key = k .part; value = v .part }
-            → (0 < v .next) × Reached s (v .next) (made kind tag name (count + 1) (set ps count x))
+        pub pair-reached : count < 16 → (x : Pair) → x ≡ record { code = k .code; key = k .part; value = v .part } → (qs : List Pair) → qs ≡ set ps count x
+            → (0 < v .next) × Reached s (v .next) (made kind tag name (count + 1) qs)
         unfolding withKey withValue
-        pair-reached f x ex =
-            let z : addedValue (v .part) keyed ≡ made kind tag name (count + 1) (set ps count x) =
-            sym (value-added (v .part) keyed f) ∙ ap (λ (y : Pair). made kind tag name (count + 1) (set ps count y)) (sym ex) in
+        pair-reached f x ex qs eq =
+            let z : addedValue (v .part) keyed ≡ made kind tag name (count + 1) qs =
+            sym (value-added (v .part) keyed f) ∙ ap (made kind tag name (count + 1)) (sym (eq ∙ ap (set ps count) ex)) in
             (next-later s (k .next) (onValue (k .next)) (addedValue (v .part)) v u q, subst (Reached s (v .next)) z value-reached)
 
         pub pair-further : (at < v .next) × (v .next ≤ length s)
@@ -110,41 +145,58 @@ module _ (s : List ℕ) (at : ℕ) (kind tag : ℕ) (name : Part) (count : ℕ) 
 
 -- ---- what follows the pairs
 
-module _ (s : List ℕ) (at : ℕ) (w : Walked) (re : Reached s at w) (two : w .next ≡ 2) where
-  by-key : (l : Line) → step (w .next) at l w ≡ onKey at l w
+pub takes-within : (s : List ℕ) (at : ℕ) (f : Line → Walked → Walked) (g : Walked → Walked) (r : Lined) → Takes s at f g r → r .ok ≡ true → r .next ≤ length s
+takes-within s at f g r t o = omega (arith, t .good o .next, t .good o .ended)
+
+module _ (s : List ℕ) (at : ℕ) (l : Last) where
+  lost-by : ((w : Walked) → Reached s at w → w .next ≡ 2 → Lost s) → l .next ≡ 5 → Closes s at l
+  lost-by f e kind tag name count ps re =
+      record { lost = λ x. f (made kind tag name count ps) re refl; whole = λ n. absurd (n e); end = λ n. absurd (n e) }
+
+  ends-by : (w : Walked) → (l .next ≡ 5 → ⊥) → (closed l w ≡ settled (walked (firstEvent s))) × (l .end ≡ eventLength s) → Ends s w l
+  ends-by w n e = record { lost = λ x. absurd (n x); whole = λ x. e .0; end = λ x. e .1 }
+
+module _ (s : List ℕ) (at : ℕ) where
+  by-key : (w : Walked) → w .next ≡ 2 → (l : Line) → step (w .next) at l w ≡ onKey at l w
   unfolding step
-  by-key l = ap (λ (m : ℕ). step m at l w) two
+  by-key w two l = ap (λ (m : ℕ). step m at l w) two
 
-  pub on-lost : 0 < at → hasHead (str "key=") (drop at s) ≡ false → hasHead (str "text=") (drop at s) ≡ false → {o : Bool} → o ≡ (hasHead (str "event=") (drop at s) || leb (length s) at)
-      → o ≡ false → Lost s
-  unfolding str all isWithinLine
-  on-lost p hk ht eo f =
-      reached-lost s at w re (λ q. true-is-false (sym q ∙ over-is s at p eo ∙ f))
-      (λ e i j. by-key (lineOf (lineIn s at)) ∙ sym (not-key (lineIn s at) at w (line-head (str "text=") refl s at ht) (line-head (str "key=") refl s at hk)))
+  module _ (p : 0 < at) {o : Bool} (eo : o ≡ (hasHead (str "event=") (drop at s) || leb (length s) at)) where
+    pub on-lost : hasHead (str "key=") (drop at s) ≡ false → hasHead (str "text=") (drop at s) ≡ false → o ≡ false → (l : Last) → l .next ≡ 5 → Closes s at l
+    unfolding str all isWithinLine
+    on-lost hk ht f l =
+        lost-by s at l
+        (λ w re two.
+        reached-lost s at w re (λ q. true-is-false (sym q ∙ over-is s at p eo ∙ f))
+        (λ e i j. by-key w two (lineOf (lineIn s at)) ∙ sym (not-key (lineIn s at) at w (line-head (str "text=") refl s at ht) (line-head (str "key=") refl s at hk))))
 
-  pub on-end : 0 < at → {o : Bool} → o ≡ (hasHead (str "event=") (drop at s) || leb (length s) at) → o ≡ true → (r : Walk) → r ≡ record { walked = w; end = at } → r ≡ outcome s
-  on-end p eo f r er = reached-end s at w re (over-is s at p eo ∙ f) (ap (λ (m : ℕ). eqb m 2 || eqb m 4) two) r er
+    pub on-end : o ≡ true → (x : Part) → x ≡ partAt 0 0 0 → Closes s at (record { next = 2; text = x; end = at })
+    on-end f x ex kind tag name count ps re =
+        let w : Walked = made kind tag name count ps in
+        let l : Last = record { next = 2; text = x; end = at } in
+        let z = reached-end s at w re (over-is s at p eo ∙ f) refl in
+        ends-by s at l w (λ e. omega (arith, e)) (ap (λ (y : Part). closed (record { next = 2; text = y; end = at }) w) ex ∙ z .0, z .1)
 
   module _ (h : hasHead (str "text=") (drop at s) ≡ true) (t : Lined) (k : Takes s at (onKey at) (withText (t .part)) t) where
-    pub text-lost : t .ok ≡ false → Lost s
+    pub text-lost : t .ok ≡ false → (l : Last) → l .next ≡ 5 → Closes s at l
     unfolding str
-    text-lost o = takes-lost s at w re (onKey at) (withText (t .part)) t k o by-key (λ p. true-is-false (sym p ∙ head-on s at 116 _ refl h))
+    text-lost o l =
+        lost-by s at l (λ w re two. takes-lost s at w re (onKey at) (withText (t .part)) t k o (by-key w two) (λ p. true-is-false (sym p ∙ head-on s at 116 _ refl h)))
 
-    module _ (o : t .ok ≡ true) where
-      text-reached : Reached s (t .next) (withText (t .part) w)
-      text-reached = reached-goes s at w re (onKey at) (withText (t .part)) (t .next) (k .good o) by-key
+    module _ (o : t .ok ≡ true) {b : Bool} (eb : b ≡ (hasHead (str "event=") (drop (t .next) s) || leb (length s) (t .next))) where
+      over : isOver s (t .next) ≡ b
+      over = over-is s (t .next) (next-later s at (onKey at) (withText (t .part)) t k o) eb
 
-      pub text-within : t .next ≤ length s
-      text-within = text-reached .within
+      text-reached : (w : Walked) → Reached s at w → w .next ≡ 2 → Reached s (t .next) (withText (t .part) w)
+      text-reached w re two = reached-goes s at w re (onKey at) (withText (t .part)) (t .next) (k .good o) (by-key w two)
 
-      later : 0 < t .next
-      later = next-later s at (onKey at) (withText (t .part)) t k o
+      pub text-more : b ≡ false → (l : Last) → l .next ≡ 5 → Closes s at l
+      unfolding withText step
+      text-more f l = lost-by s at l (λ w re two. reached-lost s (t .next) (withText (t .part) w) (text-reached w re two) (λ q. true-is-false (sym q ∙ over ∙ f)) (λ e i j. refl))
 
-      module _ {b : Bool} (eb : b ≡ (hasHead (str "event=") (drop (t .next) s) || leb (length s) (t .next))) where
-        pub text-more : b ≡ false → Lost s
-        unfolding withText step
-        text-more f = reached-lost s (t .next) (withText (t .part) w) text-reached (λ q. true-is-false (sym q ∙ over-is s (t .next) later eb ∙ f)) (λ e i j. refl)
-
-        pub text-end : b ≡ true → (r : Walk) → r ≡ record { walked = withText (t .part) w; end = t .next } → r ≡ outcome s
-        unfolding withText
-        text-end f r er = reached-end s (t .next) (withText (t .part) w) text-reached (over-is s (t .next) later eb ∙ f) refl r er
+      pub text-end : b ≡ true → Closes s at (record { next = 4; text = t .part; end = t .next })
+      unfolding withText
+      text-end f kind tag name count ps re =
+          let w : Walked = made kind tag name count ps in
+          ends-by s at (record { next = 4; text = t .part; end = t .next }) w (λ e. omega (arith, e))
+          (reached-end s (t .next) (withText (t .part) w) (text-reached w re refl) (over ∙ f) refl)

@@ -7,8 +7,8 @@ use native.Mathlib.Numerals.{add-one}
 use native.Mathlib.Omega.{arith}
 use lib.Dec.{eqb, ltb, leb}
 use lib.ListN.{length, take, drop, length-drop, drop-of-length-le}
-use lib.Seq.{drop-drop, take-take, take-all, length-take-le, take-nil}
-use borrow.Author.Tests.{ltb-true, ltb-false, lt-ltb, leb-true, leb-false, le-leb, ne-eqb}
+use lib.Seq.{take-take, take-all, length-take-le, take-nil}
+use borrow.Author.Tests.{ltb-true, ltb-false, lt-ltb, leb-true, leb-false, ne-eqb}
 use Rattle.definition.specs.Text.{str}
 use Rattle.definition.specs.Event.{Line, lineOf, linesFrom, tailFrom, isNil, beginsEvent}
 use Rattle.lines.specs.Lines.{lineLength, hasHead, restLength, eventLength}
@@ -16,11 +16,10 @@ use Rattle.lines.proofs.LineLaws.{rest-event, rest-begun, rest-on, rest-after, 
 use Rattle.parts.specs.declared.Part.{Part}
 use Rattle.parts.specs.declared.Pair.{Pair}
 use Rattle.parts.specs.declared.Walked.{Walked}
-use Rattle.parts.specs.Parts.{partAt, noPairs, begun, broken}
+use Rattle.parts.specs.Parts.{partAt, noPairs, begun, broken, pairsOf, walkedBy}
 use Rattle.walk.specs.declared.Lined.{Lined}
-use Rattle.walk.specs.declared.Walk.{Walk}
 use Rattle.walk.specs.Walk.{placedLines, step, walk, walkedLines, walked}
-use Rattle.walk.specs.Stream.{firstEvent, settled, outcome, endOf, lineIn, InForm, Takes, Left, Reached}
+use Rattle.walk.specs.Stream.{firstEvent, settled, endOf, lineIn, InForm, Takes, Left, Reached}
 use Rattle.walk.proofs.WalkLaw.{Stopped, stopped, walk-stays}
 use Rattle.definition.proofs.Base.{true-is-false}
 use Rattle.walk.proofs.CodeLaws.{head-length}
@@ -236,30 +235,18 @@ module _ (s : List ℕ) (at : ℕ) (d : Walked) (re : Reached s at d) where
   pub broken-lost : d .next ≡ 5 → broken begun ≡ settled (walked (firstEvent s))
   broken-lost e = out-of (firstEvent s) (left-out (firstEvent s) at d (re .left) e)
 
-  pub reached-end : isOver s at ≡ true → (eqb (d .next) 2 || eqb (d .next) 4) ≡ true → (r : Walk) → r ≡ record { walked = d; end = at } → r ≡ outcome s
-  reached-end e c r er =
+  pub reached-end : isOver s at ≡ true → (eqb (d .next) 2 || eqb (d .next) 4) ≡ true → (d ≡ settled (walked (firstEvent s))) × (at ≡ eventLength s)
+  reached-end e c =
       let n : eventLength s ≡ at = over-length s at (re .on) e in
       let z : d ≡ walkedLines (firstEvent s) = left-end (firstEvent s) at d (re .left) (omega (arith, first-length s, n)) in
       let y : d ≡ walked (firstEvent s) = short-enough (firstEvent s) d (omega (arith, first-length s, n, re .short)) z in
-      er ∙ ap₂ (λ (w : Walked) (k : ℕ). record { walked = w; end = k }) (sym (settled-in d c) ∙ ap settled y) (sym n)
+      (sym (settled-in d c) ∙ ap settled y, sym n)
 
 pub reached-start : (s : List ℕ) → Reached s 0 begun
 reached-start s = record { left = left-start (firstEvent s) begun refl; within = omega arith; short = omega arith; on = omega (arith, rest-event s) }
 
-pub refused : (s : List ℕ) (r : Walk) → r ≡ record { walked = broken begun; end = eventLength s } → broken begun ≡ settled (walked (firstEvent s)) → r ≡ outcome s
-refused s r er e = er ∙ ap (λ (w : Walked). record { walked = w; end = eventLength s }) e
-
 -- As the code writes an event out of form.
-pub out-is : (s : List ℕ) (p : Part) (ps : List Pair) (e : ℕ) → p ≡ partAt 0 0 0 → ps ≡ noPairs → e ≡ 0 + eventLength (drop 0 s)
-    → _≡_ {A = Walk} (record {
-      walked = record { next = 5; kind = 0; tag = 0; name = p; code = 0; key = p; count = 0; pairs = ps; text = p };
-      end = e;
-    }) (record { walked = broken begun; end = eventLength s })
-unfolding broken begun
-out-is s p ps e ep eps ee =
-    let z : e ≡ eventLength s = omega (arith, ee) in
-    ap (λ (q : Part). record { walked = record { next = 5; kind = 0; tag = 0; name = q; code = 0; key = q; count = 0; pairs = ps; text = q }; end = e }) ep
-    ∙ ap₂ (λ (qs : List Pair) (n : ℕ). record {
-      walked = record { next = 5; kind = 0; tag = 0; name = partAt 0 0 0; code = 0; key = partAt 0 0 0; count = 0; pairs = qs; text = partAt 0 0 0 };
-      end = n;
-    }) eps z
+pub out-is : (p : Part) (rs : List (List ℕ)) → p ≡ partAt 0 0 0 → pairsOf rs ≡ noPairs → walkedBy (record { next = 5; kind = 0; tag = 0; name = p; count = 0; text = p }) rs ≡ broken begun
+unfolding walkedBy broken begun
+out-is p rs ep er =
+    ap₂ (λ (q : Part) (ps : List Pair). record { next = 5; kind = 0; tag = 0; name = q; code = 0; key = partAt 0 0 0; count = 0; pairs = ps; text = q }) ep er

@@ -13,7 +13,7 @@ use Rattle.parts.specs.declared.Pair.{Pair}
 use Rattle.parts.specs.declared.Walked.{Walked}
 use Rattle.parts.specs.Parts.{partAt, begun, broken}
 use Rattle.walk.specs.declared.Lined.{Lined}
-use Rattle.walk.specs.declared.Walk.{Walk}
+use Rattle.walk.specs.declared.Last.{Last}
 use Rattle.walk.specs.Walk.{placedLines, walk, walked}
 
 abbrev pub firstEvent : List ℕ → List ℕ
@@ -23,9 +23,6 @@ firstEvent s = take (eventLength s) s
 unfoldable pub settled : Walked → Walked
 unfolding begun broken
 settled w = elim (eqb (w .next) 2 || eqb (w .next) 4) [ true ↦ w | false ↦ broken begun ]
-
-abbrev pub outcome : List ℕ → Walk
-outcome s = record { walked = settled (walked (firstEvent s)); end = eventLength s }
 
 -- ---- a line
 
@@ -77,3 +74,29 @@ made kind tag name count pairs =
       pairs = pairs;
       text = partAt 0 0 0;
     }
+
+-- ---- what follows the attributes
+
+abbrev pub closed : Last → Walked → Walked
+closed l w =
+    record {
+      next = l .next;
+      kind = w .kind;
+      tag = w .tag;
+      name = w .name;
+      code = w .code;
+      key = w .key;
+      count = w .count;
+      pairs = w .pairs;
+      text = l .text;
+    }
+
+-- After the attributes of w the event is out of form, or it is w with l.
+pub record Ends (s : List ℕ) (w : Walked) (l : Last) : Type 0 where
+  pub lost : l .next ≡ 5 → broken begun ≡ settled (walked (firstEvent s))
+  pub whole : (l .next ≡ 5 → ⊥) → closed l w ≡ settled (walked (firstEvent s))
+  pub end : (l .next ≡ 5 → ⊥) → l .end ≡ eventLength s
+
+-- Whatever the attributes are that end at `at`.
+abbrev pub Closes : List ℕ → ℕ → Last → Type 0
+Closes s at l = (kind tag : ℕ) (name : Part) (count : ℕ) (ps : List Pair) → Reached s at (made kind tag name count ps) → Ends s (made kind tag name count ps) l

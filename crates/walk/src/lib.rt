@@ -13,12 +13,13 @@ use lines::next_event;
 use lines::scan_line;
 use lines::tail_of;
 use lines::tail_of_text;
+use parts::Heading;
 use parts::Pair;
 use parts::Part;
-use parts::Walked;
+use parts::clear;
 use parts::kind_of;
-use parts::no_pairs;
 use parts::no_part;
+use parts::put_pair;
 use parts::wide;
 ghost use mathlib.Core.Path.{_≡_};
 ghost use mathlib.Core.Bool.{true, false, _&&_, _||_};
@@ -29,9 +30,9 @@ ghost use Rattle.definition.specs.Text.{str};
 ghost use Rattle.lines.specs.Lines.{hasHead, eventLength};
 ghost use Rattle.lines.specs.Escapes.{scanned};
 ghost use Rattle.lines.specs.Blocks.{all, isPlain};
-ghost use Rattle.parts.specs.Parts.{partAt, noPairs, broken, begun, withKind, withName, withKey, withText, addedValue};
-ghost use Rattle.walk.specs.Walk.{AsWritten, found, onEvent, onName, onKey, onValue};
-ghost use Rattle.walk.specs.Stream.{Takes, Reached, made, outcome};
+ghost use Rattle.parts.specs.Parts.{partAt, noPairs, broken, begun, withKind, withName, withKey, withText, addedValue, walkedBy};
+ghost use Rattle.walk.specs.Walk.{AsWritten, found, onEvent, onName, onKey, onValue, walked};
+ghost use Rattle.walk.specs.Stream.{firstEvent, settled, Takes, Reached, made, Closes};
 
 // A part, and whether it is legible and within its limits.
 pub struct Found {
@@ -227,27 +228,26 @@ fn text_line(stream: &[u8], at: usize) -> Lined
     )
 }
 
-// The first event of a stream: what its lines have brought, and where it ends.
+// The first event of a stream: what its lines have brought beside the attributes, and where it ends.
 pub struct Walk {
-    pub walked: Walked,
+    pub walked: Heading,
     pub end: usize,
 }
 
 // An event out of form.
-fn refuse(stream: &[u8]) -> Walk
-    ensures { λ r. ⌜ r ≡ record { walked = broken begun; end = eventLength (now (stream .entry)) } ⌝ }
+fn refuse(stream: &[u8], pairs: &mut [[u16; 8]]) -> Walk
+    requires { ⌜ length (now pairs) ≡ 16 ⌝ }
+    ensures lines { λ r. ⌜ walkedBy (r .walked) (now (pairs .exit)) ≡ broken begun ⌝ }
+    ensures end { λ r. ⌜ r .end ≡ eventLength (now (stream .entry)) ⌝ }
 {
+    clear(pairs);
     let part = no_part();
-    let pairs = no_pairs();
-    let walked = Walked {
+    let walked = Heading {
         next: 5,
         kind: 0,
         tag: 0,
         name: part,
-        code: 0,
-        key: part,
         count: 0,
-        pairs: pairs,
         text: part,
     };
     Walk {
@@ -256,12 +256,22 @@ fn refuse(stream: &[u8]) -> Walk
     }
 }
 
-fn ended(w: Walked, end: usize) -> Walk
-    ensures { λ r. ⌜ r ≡ record { walked = w; end = end } ⌝ }
+// What follows the attributes, and where the event ends: `next` is 4 after a text and 2 without one, 5 where the event is out of form.
+pub struct Last {
+    pub next: u32,
+    pub text: Part,
+    pub end: usize,
+}
+
+// Lines out of form.
+fn no_last() -> Last
+    ensures { λ r. ⌜ r .next ≡ 5 ⌝ }
 {
-    Walk {
-        walked: w,
-        end: end,
+    let part = no_part();
+    Last {
+        next: 5,
+        text: part,
+        end: 0,
     }
 }
 
@@ -274,59 +284,63 @@ fn is_over(stream: &[u8], at: usize) -> bool
 }
 
 // The text, and no line after it.
-fn walk_text(stream: &[u8], w: Walked, at: usize) -> Walk
-    requires { ⌜ Reached (now stream) at w ⌝ }
-    requires { ⌜ w .next ≡ 2 ⌝ }
+fn last_text(stream: &[u8], at: usize) -> Last
+    requires { ⌜ at ≤ length (now stream) ⌝ }
     requires { ⌜ hasHead (str "text=") (drop at (now stream)) ≡ true ⌝ }
-    ensures { λ r. ⌜ r ≡ outcome (now (stream .entry)) ⌝ }
+    ensures { λ r. ⌜ Closes (now (stream .entry)) at r ⌝ }
 {
     let t = text_line(stream, at);
     if !t.ok {
-        return refuse(stream);
+        return no_last();
     }
-    let next = t.next;
-    if !is_over(stream, next) {
-        return refuse(stream);
+    let end = t.next;
+    if !is_over(stream, end) {
+        return no_last();
     }
-    let part = t.part;
-    let mut e = w;
-    e.next = 4;
-    e.text = part;
-    ended(e, next)
+    let text = t.part;
+    Last {
+        next: 4,
+        text: text,
+        end: end,
+    }
 }
 
-// What follows the attributes.
-fn walk_on(stream: &[u8], w: Walked, at: usize) -> Walk
-    requires { ⌜ Reached (now stream) at w ⌝ }
+fn last_line(stream: &[u8], at: usize) -> Last
+    requires { ⌜ at ≤ length (now stream) ⌝ }
     requires { ⌜ 0 < at ⌝ }
-    requires { ⌜ w .next ≡ 2 ⌝ }
     requires { ⌜ hasHead (str "key=") (drop at (now stream)) ≡ false ⌝ }
-    ensures { λ r. ⌜ r ≡ outcome (now (stream .entry)) ⌝ }
+    ensures { λ r. ⌜ Closes (now (stream .entry)) at r ⌝ }
 {
     if begins_text(stream, at) {
-        return walk_text(stream, w, at);
+        return last_text(stream, at);
     }
     if !is_over(stream, at) {
-        return refuse(stream);
+        return no_last();
     }
-    ended(w, at)
+    let text = no_part();
+    Last {
+        next: 2,
+        text: text,
+        end: at,
+    }
 }
 
-// What the lines have brought up to the last attribute.
-fn with_pairs(kind: u32, tag: u32, name: Part, count: usize, pairs: [Pair; 16]) -> Walked
-    ensures { λ r. ⌜ r ≡ made kind tag name count pairs ⌝ }
+// An event in form.
+fn ended(kind: u32, tag: u32, name: Part, count: usize, l: Last) -> Walk
+    ensures { λ r. ⌜ r ≡ record { walked = record { next = l .next; kind = kind; tag = tag; name = name; count = count; text = l .text }; end = l .end } ⌝ }
 {
-    let part = no_part();
-    Walked {
-        next: 2,
+    let text = l.text;
+    let walked = Heading {
+        next: l.next,
         kind: kind,
         tag: tag,
         name: name,
-        code: 0,
-        key: part,
         count: count,
-        pairs: pairs,
-        text: part,
+        text: text,
+    };
+    Walk {
+        walked: walked,
+        end: l.end,
     }
 }
 
@@ -343,46 +357,54 @@ fn pair_of(k: Lined, v: Lined) -> Pair
 }
 
 // The lines after the name `n`.
-fn walk_pairs(stream: &[u8], kind: u32, n: Lined) -> Walk
+fn walk_pairs(stream: &[u8], kind: u32, n: Lined, pairs: &mut [[u16; 8]]) -> Walk
+    requires { ⌜ length (now pairs) ≡ 16 ⌝ }
     requires { ⌜ 0 < n .next ⌝ }
     requires { ⌜ Reached (now stream) (n .next) (made kind (n .code) (n .part) 0 noPairs) ⌝ }
-    ensures { λ r. ⌜ r ≡ outcome (now (stream .entry)) ⌝ }
+    ensures lines { λ r. ⌜ walkedBy (r .walked) (now (pairs .exit)) ≡ settled (walked (firstEvent (now (stream .entry)))) ⌝ }
+    ensures end { λ r. ⌜ r .end ≡ eventLength (now (stream .entry)) ⌝ }
 {
     let tag = n.code;
     let name = n.part;
     let mut at = n.next;
     let mut count = 0;
-    let mut pairs = no_pairs();
+    clear(pairs);
     while begins_key(stream, at) {
         let k = key_line(stream, at);
         if !k.ok {
-            return refuse(stream);
+            return refuse(stream, pairs);
         }
         let v = value_line(stream, k.next);
         if !v.ok {
-            return refuse(stream);
+            return refuse(stream, pairs);
         }
         if wide(Chart::ATTRIBUTES) <= count {
-            return refuse(stream);
+            return refuse(stream, pairs);
         }
-        pairs[count] = pair_of(k, v);
+        put_pair(pairs, count, pair_of(k, v));
         count += 1;
         at = v.next;
     }
-    walk_on(stream, with_pairs(kind, tag, name, count, pairs), at)
+    let l = last_line(stream, at);
+    if l.next == 5 {
+        return refuse(stream, pairs);
+    }
+    ended(kind, tag, name, count, l)
 }
 
 // The lines of a stream's first event, up to where it ends.
-pub fn walk_lines(stream: &[u8]) -> Walk
-    ensures { λ r. ⌜ r ≡ outcome (now (stream .entry)) ⌝ }
+pub fn walk_lines(stream: &[u8], pairs: &mut [[u16; 8]]) -> Walk
+    requires { ⌜ length (now pairs) ≡ 16 ⌝ }
+    ensures lines { λ r. ⌜ walkedBy (r .walked) (now (pairs .exit)) ≡ settled (walked (firstEvent (now (stream .entry)))) ⌝ }
+    ensures end { λ r. ⌜ r .end ≡ eventLength (now (stream .entry)) ⌝ }
 {
     let e = event_line(stream);
     if !e.ok {
-        return refuse(stream);
+        return refuse(stream, pairs);
     }
     let n = name_line(stream, e.next);
     if !n.ok {
-        return refuse(stream);
+        return refuse(stream, pairs);
     }
-    walk_pairs(stream, e.code, n)
+    walk_pairs(stream, e.code, n, pairs)
 }

@@ -1,19 +1,24 @@
 use Rattle.walk.proofs.StreamLaws.{out-is}
+use native.Mathlib.Omega.{arith}
 use borrow.Author.Needs.{needs}
 use Rattle.walk.proofs.refuse.Statement.{statement}
 use Rattle.walk.proofs.refuse.Tie as tie
 
+clear-requires : tie.Need-clear-requires
+clear-requires c κs = search needs
+
 no-part-requires : tie.Need-no-part-requires
 no-part-requires c κs = search needs
-
-no-pairs-requires : tie.Need-no-pairs-requires
-no-pairs-requires c κs = search needs
 
 next-event-requires : tie.Need-next-event-requires
 next-event-requires c κs = search needs
 
+same-length : tie.Need-same-length
+same-length c = search needs
+
 returns : tie.Need-returns
-returns c = out-is (c .before .before .before .before .args .stream .now) _ _ _ (c .before .before .no-part .ensures) (c .before .no-pairs .ensures) (c .next-event .ensures)
+returns c = (out-is _ (c .before .before .before .clear .last .0) (c .before .no-part .ensures) (c .before .before .before .clear .ensures), omega (arith, c .next-event .ensures))
 
 pub refuse-spec : {M : Type 1} → statement M
-refuse-spec = tie.close (tie.spec no-part-requires no-pairs-requires next-event-requires returns)
+refuse-spec =
+    tie.close (tie.spec clear-requires no-part-requires next-event-requires same-length returns)
