@@ -6,7 +6,6 @@ use mathlib.Core.Option.{Option}
 use mathlib.Core.List.{List}
 use lib.Dec.{eqb}
 use lib.ListN.{length, take, drop}
-use lib.Seq.{take-all}
 use borrow.Author.Tests.{ne-eqb, eqb-false}
 use native.Mathlib.Omega.{arith}
 use Rattle.definition.specs.Elements.{keyOf, holdsText}
@@ -19,16 +18,19 @@ use Rattle.walk.proofs.TakenLaw as T
 use Rattle.walk.proofs.TakenLaw.{Taken, taken-law}
 use Rattle.parts.specs.declared.Walked.{Walked}
 use Rattle.lines.specs.Lines.{eventLength}
-use Rattle.parts.specs.Parts.{begun, broken}
-use Rattle.walk.specs.declared.Walk.{Walk}
+use Rattle.parts.specs.declared.Heading.{Heading}
+use Rattle.parts.specs.Parts.{partAt, noPairs, begun, broken, pairsOf, walkedBy, atMost16}
+use Rattle.parts.proofs.MostLaws.{take-most}
+use Rattle.parts.proofs.PairLaws.{pairs-length}
 use Rattle.walk.specs.Walk.{walked}
-use Rattle.walk.specs.Stream.{firstEvent, settled, outcome}
+use Rattle.walk.specs.Stream.{firstEvent, settled}
 use Rattle.walk.proofs.WalkLaw.{Stopped, TextReads, walk-no-text, walk-text}
 use Rattle.walk.proofs.StreamLaws.{event-within, settled-out, settled-in}
 use Rattle.walk.proofs.SecondEvent.{second-event}
 use Rattle.event.specs.declared.Described.{Described}
+use Rattle.event.specs.declared.Head.{Head}
 use Rattle.event.specs.declared.Next.{Next}
-use Rattle.event.specs.Described.{Coded, read, blank, descriptionOf, shapeFits, inShape, pairKeys, allDiffer, finished, described}
+use Rattle.event.specs.Described.{Coded, read, blank, describedBy, headOf, descriptionOf, shapeFits, inShape, pairKeys, allDiffer, finished, described}
 use Rattle.event.proofs.EventLaw.{finish-out, finish-in}
 
 -- ---- the end of a walk
@@ -83,50 +85,60 @@ coded-walk raw w e f = go (taken-law raw)
 
 -- ---- what the code answers
 
-module _ (s raw : List ℕ) (x : Walk) (ex : x ≡ outcome s) (er : raw ≡ firstEvent s) where
+module _ (s raw : List ℕ) (h : Heading) (rs : List (List ℕ)) (ew : walkedBy h rs ≡ settled (walked (firstEvent s))) (er : raw ≡ firstEvent s) where
   abbrev w : Walked
-  w = x .walked
-
-  pub end-is : x .end ≡ eventLength s
-  end-is = ap (λ (y : Walk). y .end) ex
+  w = walkedBy h rs
 
   whole : {d : Described} → d ≡ finished raw w → d ≡ described (firstEvent s)
   unfolding described
-  whole e = e ∙ ap₂ finished er (ap (λ (y : Walk). y .walked) ex) ∙ settled-finished (firstEvent s) (walked (firstEvent s))
+  whole e = e ∙ ap₂ finished er ew ∙ settled-finished (firstEvent s) (walked (firstEvent s))
 
-  module _ (holds : Bool) (eh : holds ≡ holdsText (w .tag)) {b : Bool} (es : b ≡ shapeFits (w .kind) (w .next) (w .count) holds) where
+  module _ (holds : Bool) (eh : holds ≡ holdsText (h .tag)) {b : Bool} (es : b ≡ shapeFits (h .kind) (h .next) (h .count) holds) where
     shape-is : inShape w ≡ b
-    unfolding inShape
-    shape-is = sym (es ∙ ap (shapeFits (w .kind) (w .next) (w .count)) eh)
+    unfolding inShape walkedBy
+    shape-is = sym (es ∙ ap (shapeFits (h .kind) (h .next) (h .count)) eh)
 
-    pub coded-in : b ≡ true → Coded raw (take (w .count) (w .pairs))
-    coded-in f = coded-walk raw w (ap (λ (y : Walk). y .walked) ex ∙ ap (λ (y : List ℕ). settled (walked y)) (sym er)) (shape-is ∙ f)
+    module _ (n : ℕ) (en : n ≡ atMost16 (h .count)) (long : length rs ≡ 16) where
+      -- Of 16 rows the first n are the first `count`.
+      first-most : take n (pairsOf rs) ≡ take (h .count) (pairsOf rs)
+      first-most = take-most (pairsOf rs) (h .count) (pairs-length rs ∙ long) n (omega (arith, en)) (omega (arith, en))
 
-    -- The description d, with the end.
-    module _ (d : Described) (r : Next) (e : r ≡ record { event = d; end = x .end }) where
-      answer : d ≡ finished raw w → (r .event ≡ described (firstEvent s)) × (r .end ≡ eventLength s)
-      answer f = (ap (λ (y : Next). y .event) e ∙ whole f, ap (λ (y : Next). y .end) e ∙ end-is)
+      pub coded-in : b ≡ true → Coded raw (take n (pairsOf rs))
+      unfolding walkedBy
+      coded-in f = subst (Coded raw) (sym first-most) (coded-walk raw w (ew ∙ ap (λ (y : List ℕ). settled (walked y)) (sym er)) (shape-is ∙ f))
 
-      pub end-shape : d ≡ blank 3 → b ≡ false → (r .event ≡ described (firstEvent s)) × (r .end ≡ eventLength s)
+    -- The head d and the rows beside it, with the end.
+    module _ (d : Head) (ds : List (List ℕ)) (end : ℕ) (ee : end ≡ eventLength s) (r : Next) (e : r ≡ record { event = d; end = end }) where
+      answer : describedBy d ds ≡ finished raw w → (describedBy (r .event) ds ≡ described (firstEvent s)) × (r .end ≡ eventLength s)
+      answer f = (ap (λ (y : Next). describedBy (y .event) ds) e ∙ whole f, ap (λ (y : Next). y .end) e ∙ ee)
+
+      pub end-shape : describedBy d ds ≡ blank 3 → b ≡ false → (describedBy (r .event) ds ≡ described (firstEvent s)) × (r .end ≡ eventLength s)
       end-shape ed f = answer (ed ∙ sym (finish-out raw w (shape-is ∙ f)))
 
-      module _ (f : b ≡ true) {k : Bool} (ek : k ≡ allDiffer (pairKeys raw (take (w .count) (w .pairs)))) where
-        pub end-keys : d ≡ blank 4 → k ≡ false → (r .event ≡ described (firstEvent s)) × (r .end ≡ eventLength s)
-        end-keys ed g = answer (ed ∙ sym (finish-in raw w (shape-is ∙ f) false (sym ek ∙ g)))
+      module _ (n : ℕ) (en : n ≡ atMost16 (h .count)) (long : length rs ≡ 16) (f : b ≡ true) {k : Bool} (ek : k ≡ allDiffer (pairKeys raw (take n (pairsOf rs)))) where
+        differ-is : allDiffer (pairKeys raw (take (w .count) (w .pairs))) ≡ k
+        unfolding walkedBy
+        differ-is = sym (ek ∙ ap (λ (ps : List Pair). allDiffer (pairKeys raw ps)) (first-most n en long))
 
-        pub end-good : d ≡ descriptionOf w → k ≡ true → (r .event ≡ described (firstEvent s)) × (r .end ≡ eventLength s)
-        end-good ed g = answer (ed ∙ sym (finish-in raw w (shape-is ∙ f) true (sym ek ∙ g)))
+        pub end-keys : describedBy d ds ≡ blank 4 → k ≡ false → (describedBy (r .event) ds ≡ described (firstEvent s)) × (r .end ≡ eventLength s)
+        end-keys ed g = answer (ed ∙ sym (finish-in raw w (shape-is ∙ f) false (differ-is ∙ g)))
+
+        pub end-good : d ≡ headOf h → ds ≡ rs → k ≡ true → (describedBy (r .event) ds ≡ described (firstEvent s)) × (r .end ≡ eventLength s)
+        unfolding describedBy headOf descriptionOf walkedBy
+        end-good ed eq g = answer (ap₂ describedBy ed eq ∙ sym (finish-in raw w (shape-is ∙ f) true (differ-is ∙ g)))
 
 -- The bytes of the first event, cut out.
-module _ (s : List ℕ) (x : Walk) (ex : x ≡ outcome s) where
-  ends-at : x .end ≡ eventLength s
-  ends-at = ap (λ (y : Walk). y .end) ex
+module _ (s : List ℕ) (end : ℕ) (ee : end ≡ eventLength s) where
+  pub end-within : end ≤ length s
+  end-within = omega (arith, ee, event-within s)
 
-  pub end-within : x .end ≤ length s
-  end-within = omega (arith, ends-at, event-within s)
+  pub cut-out : take (end - 0) (drop 0 s) ≡ firstEvent s
+  cut-out = let z : end - 0 ≡ eventLength s = omega (arith, ee) in ap (λ (n : ℕ). take n s) z
 
-  pub cut-out : take (x .end - 0) (drop 0 s) ≡ firstEvent s
-  cut-out = let z : x .end - 0 ≡ eventLength s = omega (arith, ends-at) in ap (λ (n : ℕ). take n s) z
+-- Zeros beside rows without an attribute.
+pub blank-is : (n : ℕ) (rs : List (List ℕ)) → pairsOf rs ≡ noPairs → describedBy (record { number = n; kind = 0; tag = 0; name = partAt 0 0 0; count = 0; text = partAt 0 0 0 }) rs ≡ blank n
+unfolding describedBy blank
+blank-is n rs e = rw e
 
 -- Bytes in which a second event begins are out of form.
 pub out-of-one : (raw : List ℕ) → eventLength raw < length raw → blank 3 ≡ described raw

@@ -12,6 +12,7 @@ use Rattle.lines.specs.Parts.{part, orNothing}
 use Rattle.parts.specs.declared.Part.{Part}
 use Rattle.parts.specs.declared.Pair.{Pair}
 use Rattle.parts.specs.declared.Walked.{Walked}
+use Rattle.parts.specs.declared.Heading.{Heading}
 use Rattle.parts.specs.Parts.{partAt, noPair, pairsOf}
 use Rattle.walk.specs.Walk.{walked}
 use Rattle.event.specs.declared.Described.{Described}
@@ -43,6 +44,10 @@ describedBy h rs =
       pairs = pairsOf rs;
       text = h .text;
     }
+
+-- The head of what the lines have brought.
+unfoldable pub headOf : Heading → Head
+headOf h = record { number = 0; kind = h .kind; tag = h .tag; name = h .name; count = h .count; text = h .text }
 
 -- Taken apart: what the lines have brought.
 unfoldable pub descriptionOf : Walked → Described

@@ -2,20 +2,22 @@
 use lines::part_of;
 use lines::same_text;
 use nesting::holds_text;
+use parts::Heading;
 use parts::Pair;
 use parts::Part;
-use parts::Walked;
 use parts::at_most_16;
+use parts::clear;
+use parts::pair_at;
 use parts::place;
 use walk::walk_lines;
 ghost use mathlib.Core.Path.{_≡_};
-ghost use Prim.Native.Nat.{_+_, _<_};
-ghost use lib.ListN.{getD, take, drop};
+ghost use Prim.Native.Nat.{_+_, _<_, _≤_};
+ghost use lib.ListN.{length, getD, take, drop};
 ghost use Rattle.lines.specs.Lines.{eventLength};
-ghost use Rattle.parts.specs.Parts.{noPair, atMost16};
+ghost use Rattle.parts.specs.Parts.{noPair, pairsOf};
 ghost use Rattle.definition.specs.Text.{same};
 ghost use Rattle.definition.specs.Elements.{keyOf};
-ghost use Rattle.event.specs.Described.{Coded, blank, descriptionOf, shapeFits, read, pairKeys, isAmong, allDiffer, described};
+ghost use Rattle.event.specs.Described.{Coded, blank, describedBy, headOf, shapeFits, read, pairKeys, isAmong, allDiffer, described};
 
 // An event's bytes taken apart: its kind from 0 and its element's number, and the first `count` of `pairs` are its attributes, in order. Of kind 2,
 // `whole`, `text` is the text. A refused event has the number of the question that is answered no, and zeros.
@@ -39,47 +41,41 @@ pub struct Head {
     pub text: Part,
 }
 
-fn blank_with(number: u32) -> Described
-    ensures { λ r. ⌜ r ≡ blank number ⌝ }
+// A refused event has no attributes, whatever the walk has left in the rows.
+fn blank_with(number: u32, pairs: &mut [[u16; 8]]) -> Head
+    requires { ⌜ length (now pairs) ≡ 16 ⌝ }
+    ensures { λ r. ⌜ describedBy r (now (pairs .exit)) ≡ blank number ⌝ }
 {
+    clear(pairs);
     let part = Part {
         at: 0,
         len: 0,
         size: 0,
     };
-    let none = Pair {
-        code: 0,
-        key: part,
-        value: part,
-    };
-    let pairs = [none; 16];
-    Described {
+    Head {
         number: number,
         kind: 0,
         tag: 0,
         name: part,
         count: 0,
-        pairs: pairs,
         text: part,
     }
 }
 
-fn description_of(w: Walked) -> Described
-    ensures { λ r. ⌜ r ≡ descriptionOf w ⌝ }
+fn head_of(w: Heading) -> Head
+    ensures { λ r. ⌜ r ≡ headOf w ⌝ }
 {
     let kind = w.kind;
     let tag = w.tag;
     let name = w.name;
     let count = w.count;
-    let pairs = w.pairs;
     let text = w.text;
-    Described {
+    Head {
         number: 0,
         kind: kind,
         tag: tag,
         name: name,
         count: count,
-        pairs: pairs,
         text: text,
     }
 }
@@ -120,18 +116,16 @@ fn same_key(raw: &[u8], p: Pair, q: Pair) -> bool
 }
 
 // Whether the key of pair `i` is the key of a later one.
-fn key_repeats(raw: &[u8], w: Walked, i: usize) -> bool
-    requires { ⌜ i < atMost16 (w .count) ⌝ }
-    requires { ⌜ Coded (now raw) (drop i (take (w .count) (w .pairs))) ⌝ }
-    ensures { λ r. ⌜ r ≡ isAmong (read (now (raw .entry)) (getD (w .pairs) i noPair .key)) (pairKeys (now (raw .entry)) (drop (i + 1) (take (w .count) (w .pairs)))) ⌝ }
+fn key_repeats(raw: &[u8], pairs: &[[u16; 8]], n: usize, i: usize) -> bool
+    requires { ⌜ n ≤ length (now pairs) ⌝ }
+    requires { ⌜ i < n ⌝ }
+    requires { ⌜ Coded (now raw) (drop i (take n (pairsOf (now pairs)))) ⌝ }
+    ensures { λ r. ⌜ r ≡ isAmong (read (now (raw .entry)) (getD (pairsOf (now (pairs .entry))) i noPair .key)) (pairKeys (now (raw .entry)) (drop (i + 1) (take n (pairsOf (now (pairs .entry)))))) ⌝ }
 {
-    let count = w.count;
-    let pairs = w.pairs;
-    let p = pairs[i];
-    let n = at_most_16(count);
+    let p = pair_at(pairs, i);
     let mut j = i + 1;
     while j < n {
-        if same_key(raw, p, pairs[j]) {
+        if same_key(raw, p, pair_at(pairs, j)) {
             return true;
         }
         j += 1;
@@ -139,16 +133,15 @@ fn key_repeats(raw: &[u8], w: Walked, i: usize) -> bool
     false
 }
 
-// Whether the keys of the pairs are different: the last one has no later one.
-fn keys_differ(raw: &[u8], w: Walked) -> bool
-    requires { ⌜ Coded (now raw) (take (w .count) (w .pairs)) ⌝ }
-    ensures { λ r. ⌜ r ≡ allDiffer (pairKeys (now (raw .entry)) (take (w .count) (w .pairs))) ⌝ }
+// Whether the keys of the first `n` pairs are different: the last one has no later one.
+fn keys_differ(raw: &[u8], pairs: &[[u16; 8]], n: usize) -> bool
+    requires { ⌜ n ≤ length (now pairs) ⌝ }
+    requires { ⌜ Coded (now raw) (take n (pairsOf (now pairs))) ⌝ }
+    ensures { λ r. ⌜ r ≡ allDiffer (pairKeys (now (raw .entry)) (take n (pairsOf (now (pairs .entry))))) ⌝ }
 {
-    let count = w.count;
-    let n = at_most_16(count);
     let mut i = 0;
     while i + 1 < n {
-        if key_repeats(raw, w, i) {
+        if key_repeats(raw, pairs, n, i) {
             return false;
         }
         i += 1;
@@ -158,11 +151,11 @@ fn keys_differ(raw: &[u8], w: Walked) -> bool
 
 // A stream's first event, and where it ends.
 pub struct Next {
-    pub event: Described,
+    pub event: Head,
     pub end: usize,
 }
 
-fn next_of(event: Described, end: usize) -> Next
+fn next_of(event: Head, end: usize) -> Next
     ensures { λ r. ⌜ r ≡ record { event = event; end = end } ⌝ }
 {
     Next {
@@ -172,11 +165,12 @@ fn next_of(event: Described, end: usize) -> Next
 }
 
 // The first event of a stream taken apart: it runs to the next line that begins `event=`, or to the end.
-pub fn describe_next(stream: &[u8]) -> Next
-    ensures event { λ r. ⌜ r .event ≡ described (take (eventLength (now (stream .entry))) (now (stream .entry))) ⌝ }
+pub fn describe_next(stream: &[u8], pairs: &mut [[u16; 8]]) -> Next
+    requires { ⌜ length (now pairs) ≡ 16 ⌝ }
+    ensures event { λ r. ⌜ describedBy (r .event) (now (pairs .exit)) ≡ described (take (eventLength (now (stream .entry))) (now (stream .entry))) ⌝ }
     ensures end { λ r. ⌜ r .end ≡ eventLength (now (stream .entry)) ⌝ }
 {
-    let x = walk_lines(stream);
+    let x = walk_lines(stream, pairs);
     let w = x.walked;
     let end = x.end;
     let kind = w.kind;
@@ -184,10 +178,10 @@ pub fn describe_next(stream: &[u8]) -> Next
     let count = w.count;
     let holds = holds_text(w.tag);
     if !shape_fits(kind, next, count, holds) {
-        return next_of(blank_with(3), end);
+        return next_of(blank_with(3, pairs), end);
     }
-    if !keys_differ(&stream[0..end], w) {
-        return next_of(blank_with(4), end);
+    if !keys_differ(&stream[0..end], pairs, at_most_16(count)) {
+        return next_of(blank_with(4, pairs), end);
     }
-    next_of(description_of(w), end)
+    next_of(head_of(w), end)
 }
