@@ -16,7 +16,7 @@ use Rattle.parts.specs.declared.Pair.{Pair}
 use Rattle.walk.specs.Reads.{Pairs, no-pairs, pair}
 use Rattle.walk.proofs.TakenLaw as T
 use Rattle.walk.proofs.TakenLaw.{Taken, taken-law}
-use Rattle.parts.specs.declared.Walked.{Walked}
+use Rattle.parts.specs.Walked.{Walked}
 use Rattle.lines.specs.Lines.{eventLength}
 use Rattle.parts.specs.declared.Heading.{Heading}
 use Rattle.parts.specs.Parts.{partAt, noPairs, begun, broken, pairsOf, walkedBy, atMost16}
@@ -27,7 +27,7 @@ use Rattle.walk.specs.Stream.{firstEvent, settled}
 use Rattle.walk.proofs.WalkLaw.{Stopped, TextReads, walk-no-text, walk-text}
 use Rattle.walk.proofs.StreamLaws.{event-within, settled-out, settled-in}
 use Rattle.walk.proofs.SecondEvent.{second-event}
-use Rattle.event.specs.declared.Described.{Described}
+use Rattle.event.specs.Description.{Described}
 use Rattle.event.specs.declared.Head.{Head}
 use Rattle.event.specs.declared.Next.{Next}
 use Rattle.event.specs.Described.{Coded, read, blank, describedBy, headOf, descriptionOf, shapeFits, inShape, pairKeys, allDiffer, finished, described}

@@ -16,12 +16,12 @@ use Rattle.definition.proofs.Base.{true-is-false, some-inj, and-left, and-right
 use Rattle.definition.proofs.EventLength.{event-length}
 use Rattle.lines.specs.Parts.{orNothing}
 use Rattle.parts.specs.declared.Pair.{Pair}
-use Rattle.parts.specs.declared.Walked.{Walked}
+use Rattle.parts.specs.Walked.{Walked}
 use Rattle.walk.specs.Walk.{walked}
 use Rattle.walk.specs.Reads.{Pairs, no-pairs, pair}
 use Rattle.walk.proofs.WalkLaw.{TextReads, walk-no-text, walk-text, Stopped}
 use Rattle.walk.proofs.TakenLaw.{Carries, Within, Taken, whole, too-long, none-of, taken-law}
-use Rattle.event.specs.declared.Described.{Described}
+use Rattle.event.specs.Description.{Described}
 use Rattle.event.specs.Described.{blank, descriptionOf, shapeFits, inShape, read, pairKeys, isAmong, allDiffer, finished, described}
 use Rattle.event.specs.Agrees.{TextDescribed, no-text, a-text, Describes, Agrees, out-of-form, keys-repeat, in-form, answer}
 

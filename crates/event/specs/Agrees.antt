@@ -10,7 +10,7 @@ use Rattle.definition.specs.Elements.{tagOf}
 use Rattle.definition.specs.Event.{Event, readEvent, inForm, keysDiffer}
 use Rattle.parts.specs.declared.Part.{Part}
 use Rattle.walk.specs.Reads.{Reads, Pairs}
-use Rattle.event.specs.declared.Described.{Described}
+use Rattle.event.specs.Description.{Described}
 use Rattle.event.specs.Described.{blank}
 
 -- A text where the event has one.

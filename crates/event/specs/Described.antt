@@ -11,11 +11,11 @@ use Rattle.definition.specs.Event.{legible}
 use Rattle.lines.specs.Parts.{part, orNothing}
 use Rattle.parts.specs.declared.Part.{Part}
 use Rattle.parts.specs.declared.Pair.{Pair}
-use Rattle.parts.specs.declared.Walked.{Walked}
+use Rattle.parts.specs.Walked.{Walked}
 use Rattle.parts.specs.declared.Heading.{Heading}
 use Rattle.parts.specs.Parts.{partAt, noPair, pairsOf}
 use Rattle.walk.specs.Walk.{walked}
-use Rattle.event.specs.declared.Described.{Described}
+use Rattle.event.specs.Description.{Described}
 use Rattle.event.specs.declared.Head.{Head}
 
 -- Refused: the number of the question that is answered no, and zeros.

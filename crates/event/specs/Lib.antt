@@ -1,2 +1,3 @@
+pub mod Description
 pub mod Described
 pub mod Agrees

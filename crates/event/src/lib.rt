@@ -19,19 +19,8 @@ ghost use Rattle.definition.specs.Text.{same};
 ghost use Rattle.definition.specs.Elements.{keyOf};
 ghost use Rattle.event.specs.Described.{Coded, blank, describedBy, headOf, shapeFits, read, pairKeys, isAmong, allDiffer, described};
 
-// An event's bytes taken apart: its kind from 0 and its element's number, and the first `count` of `pairs` are its attributes, in order. Of kind 2,
-// `whole`, `text` is the text. A refused event has the number of the question that is answered no, and zeros.
-pub struct Described {
-    pub number: u32,
-    pub kind: u32,
-    pub tag: u32,
-    pub name: Part,
-    pub count: usize,
-    pub pairs: [Pair; 16],
-    pub text: Part,
-}
-
-// The same without the attributes, which stand in a slice that is lent.
+// An event's bytes taken apart: its kind from 0 and its element's number; the first `count` of the rows that are lent beside it are its attributes, in order. Of
+// kind 2, `whole`, `text` is the text. A refused event has the number of the question that is answered no, and zeros.
 pub struct Head {
     pub number: u32,
     pub kind: u32,

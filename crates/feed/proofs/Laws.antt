@@ -12,7 +12,7 @@ use Rattle.definition.specs.Rows.{Store}
 use Rattle.definition.specs.Look.{look, textAfter}
 use Rattle.definition.specs.Reader.{Lent, Answer, event, longEnough, inOrder, storeOf, Reply, settled, decided, replyTo, eventReply, answerOf, answerTo, refused, lentAfter, positionOf}
 use Rattle.definition.proofs.Base.{true-is-false}
-use Rattle.event.specs.declared.Described.{Described}
+use Rattle.event.specs.Description.{Described}
 use Rattle.event.specs.Described.{blank, described}
 use Rattle.event.specs.Agrees.{Agrees, out-of-form, keys-repeat, in-form}
 use Rattle.event.proofs.EventLaw.{agrees}

@@ -8,7 +8,7 @@ use borrow.Author.Tests.{lt-ltb, le-ltb}
 use Rattle.definition.specs.Text.{str, same, placeIn}
 use Rattle.definition.specs.Event.{kindNames}
 use Rattle.parts.specs.declared.Part.{Part}
-use Rattle.parts.specs.declared.Walked.{Walked}
+use Rattle.parts.specs.Walked.{Walked}
 use Rattle.parts.specs.Parts as P
 use Rattle.parts.specs.Parts.{roomLeft, withValue, addedValue}
 

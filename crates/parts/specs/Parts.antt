@@ -8,7 +8,7 @@ use lib.Dec.{ltb}
 use Rattle.definition.specs.Limits.{limits01}
 use Rattle.parts.specs.declared.Part.{Part}
 use Rattle.parts.specs.declared.Pair.{Pair}
-use Rattle.parts.specs.declared.Walked.{Walked}
+use Rattle.parts.specs.Walked.{Walked}
 use Rattle.parts.specs.declared.Heading.{Heading}
 
 abbrev pub partAt : ℕ → ℕ → ℕ → Part

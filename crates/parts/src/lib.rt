@@ -21,21 +21,8 @@ pub struct Pair {
     pub value: Part,
 }
 
-// What all lines have brought: the first `count` of `pairs` are the attributes, in order.
-// `next` is 4 after a text and 2 without one, 5 where the event is out of form; `code` and `key` are of a key that awaits its value.
-pub struct Walked {
-    pub next: u32,
-    pub kind: u32,
-    pub tag: u32,
-    pub name: Part,
-    pub code: u32,
-    pub key: Part,
-    pub count: usize,
-    pub pairs: [Pair; 16],
-    pub text: Part,
-}
-
-// The same without the attributes, which stand in a slice that is lent: as a part of this they would be copied with it from stage to stage.
+// What all lines have brought but the attributes: those stand in rows that are lent, since as a part of this they would be copied from stage to stage.
+// `next` is 4 after a text and 2 without one, 5 where the event is out of form; the first `count` rows are the attributes, in order.
 pub struct Heading {
     pub next: u32,
     pub kind: u32,
@@ -86,22 +73,6 @@ pub fn no_part() -> Part
         len: 0,
         size: 0,
     }
-}
-
-pub fn no_pairs() -> [Pair; 16]
-    ensures { λ r. ⌜ r ≡ noPairs ⌝ }
-{
-    let part = Part {
-        at: 0,
-        len: 0,
-        size: 0,
-    };
-    let none = Pair {
-        code: 0,
-        key: part,
-        value: part,
-    };
-    [none; 16]
 }
 
 // An attribute in a row of a slice that is lent: its key's number, then both parts.

@@ -17,7 +17,7 @@ use Rattle.parts.specs.declared.Part.{Part}
 use Rattle.parts.specs.declared.Pair.{Pair}
 use Rattle.parts.specs.Parts.{partAt, noPair, atMost16}
 use Rattle.parts.proofs.MostLaws.{take-most, next-most}
-use Rattle.event.specs.declared.Described.{Described}
+use Rattle.event.specs.Description.{Described}
 use Rattle.event.specs.Described.{read}
 use Rattle.plain.specs.declared.Slot.{Slot}
 use Rattle.plain.specs.Plain.{textIf, textPart, slotBytes, loadsIn, parsedIn, readLoads, parsedRaw, lengthRead, Space}

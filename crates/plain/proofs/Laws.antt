@@ -10,7 +10,7 @@ use lib.Seq.{take-suc, take-suc-set}
 use Rattle.parts.specs.declared.Pair.{Pair}
 use Rattle.parts.specs.Parts.{noPair, atMost16}
 use Rattle.parts.proofs.MostLaws.{take-most, past-most, next-most}
-use Rattle.event.specs.declared.Described.{Described}
+use Rattle.event.specs.Description.{Described}
 use Rattle.plain.specs.declared.Slot.{Slot}
 use Rattle.plain.specs.Plain.{isPlain, allPlain, plainly, slotOf}
 

@@ -18,7 +18,7 @@ use Rattle.words.proofs.Laws.{by}
 use Rattle.parts.specs.declared.Part.{Part}
 use Rattle.parts.specs.declared.Pair.{Pair}
 use Rattle.walk.specs.Reads.{Reads, Pairs, no-pairs, pair}
-use Rattle.event.specs.declared.Described.{Described}
+use Rattle.event.specs.Description.{Described}
 use Rattle.event.specs.Described.{read}
 use Rattle.event.specs.Agrees.{TextDescribed, no-text, a-text, Describes}
 use Rattle.plain.specs.declared.Plain.{Plain}

@@ -18,7 +18,7 @@ use Rattle.parts.specs.declared.Part.{Part}
 use Rattle.parts.specs.declared.Pair.{Pair}
 use Rattle.parts.specs.Parts.{partAt}
 use Rattle.walk.specs.Reads.{Pairs, no-pairs, pair}
-use Rattle.event.specs.declared.Described.{Described}
+use Rattle.event.specs.Description.{Described}
 use Rattle.event.specs.Described.{blank, read, described}
 use Rattle.event.specs.Agrees.{TextDescribed, no-text, a-text, Describes, Agrees, out-of-form, keys-repeat, in-form}
 use Rattle.event.proofs.EventLaw.{agrees}

@@ -14,7 +14,7 @@ use Rattle.lines.specs.Parts.{part}
 use Rattle.parts.specs.declared.Part.{Part}
 use Rattle.parts.specs.declared.Pair.{Pair}
 use Rattle.parts.specs.Parts.{partAt}
-use Rattle.event.specs.declared.Described.{Described}
+use Rattle.event.specs.Description.{Described}
 use Rattle.event.specs.Described.{read}
 use Rattle.plain.specs.declared.Slot.{Slot}
 use Rattle.plain.specs.declared.Plain.{Plain}

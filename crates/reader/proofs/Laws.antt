@@ -12,7 +12,7 @@ use Rattle.definition.specs.Limits.{limits01}
 use Rattle.definition.specs.Reader.{Lent, call, event}
 use Rattle.lines.specs.Lines.{eventLength}
 use Rattle.walk.proofs.StreamLaws.{event-within}
-use Rattle.event.specs.declared.Described.{Described}
+use Rattle.event.specs.Description.{Described}
 use Rattle.event.specs.Described.{blank, described}
 use Rattle.event.proofs.DescribeLaws.{out-of-one}
 use Rattle.questions.specs.Lent.{firstTwo}

@@ -17,7 +17,7 @@ use Rattle.lines.specs.Lines.{eventLength}
 use Rattle.lines.specs.Parts.{part}
 use Rattle.lines.proofs.LineLaws.{events-by-length}
 use Rattle.walk.proofs.StreamLaws.{event-within}
-use Rattle.event.specs.declared.Described.{Described}
+use Rattle.event.specs.Description.{Described}
 use Rattle.event.specs.Described.{described}
 use Rattle.questions.specs.Lent.{firstTwo}
 use Rattle.feed.specs.declared.Answer as F

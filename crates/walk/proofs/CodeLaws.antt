@@ -18,7 +18,7 @@ use Rattle.lines.specs.declared.Scan.{Scan}
 use Rattle.lines.specs.Escapes.{scanned}
 use Rattle.lines.specs.Lines.{hasHead}
 use Rattle.parts.specs.declared.Part.{Part}
-use Rattle.parts.specs.declared.Walked.{Walked}
+use Rattle.parts.specs.Walked.{Walked}
 use Rattle.walk.specs.declared.Found.{Found}
 use Rattle.parts.specs.Parts as P
 use Rattle.parts.specs.Parts.{partAt, withKind, withName, withKey, withText, addedValue}

@@ -11,7 +11,7 @@ use lib.Seq.{drop-drop, length-take-le}
 use Rattle.definition.proofs.Base.{true-is-false}
 use Rattle.definition.specs.Event.{lineOf, linesFrom, tailFrom, isNil}
 use Rattle.lines.specs.Lines.{lineLength}
-use Rattle.parts.specs.declared.Walked.{Walked}
+use Rattle.parts.specs.Walked.{Walked}
 use Rattle.parts.specs.Parts.{begun, broken}
 use Rattle.walk.specs.Walk.{placedLines, step, walk, walkedLines, walked}
 use Rattle.walk.specs.Stream.{Left}

@@ -12,7 +12,7 @@ use Rattle.definition.specs.Event as E
 use Rattle.definition.specs.Event.{Line, lineOf}
 use Rattle.lines.specs.Lines.{lineLength, hasHead, restLength, eventLength}
 use Rattle.lines.specs.Blocks.{all, isWithinLine}
-use Rattle.parts.specs.declared.Walked.{Walked}
+use Rattle.parts.specs.Walked.{Walked}
 use Rattle.parts.specs.Parts.{begun, broken, withKind, withName, withKey, withValue, withText, addedValue, roomLeft}
 use Rattle.walk.specs.Walk.{nameFits, keyFits, valueFits, textFits, onEvent, onName, onKey, onValue, step, walkedLines, walked}
 use Rattle.walk.specs.Stream.{Left, endOf, lineIn}

@@ -16,7 +16,7 @@ use Rattle.lines.specs.Lines.{hasHead, eventLength}
 use Rattle.lines.specs.Blocks.{all, isWithinLine}
 use Rattle.parts.specs.declared.Part.{Part}
 use Rattle.parts.specs.declared.Pair.{Pair}
-use Rattle.parts.specs.declared.Walked.{Walked}
+use Rattle.parts.specs.Walked.{Walked}
 use Rattle.parts.specs.Parts.{partAt, noPairs, begun, broken, withKind, withName, withKey, withValue, withText, addedValue}
 use Rattle.parts.proofs.CodeLaws.{value-full, value-added}
 use Rattle.walk.specs.declared.Lined.{Lined}

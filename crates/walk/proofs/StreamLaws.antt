@@ -15,7 +15,7 @@ use Rattle.lines.specs.Lines.{lineLength, hasHead, restLength, eventLength}
 use Rattle.lines.proofs.LineLaws.{rest-event, rest-begun, rest-on, rest-after, line-ended-at, event-line}
 use Rattle.parts.specs.declared.Part.{Part}
 use Rattle.parts.specs.declared.Pair.{Pair}
-use Rattle.parts.specs.declared.Walked.{Walked}
+use Rattle.parts.specs.Walked.{Walked}
 use Rattle.parts.specs.Parts.{partAt, noPairs, begun, broken, pairsOf, walkedBy}
 use Rattle.walk.specs.declared.Lined.{Lined}
 use Rattle.walk.specs.Walk.{placedLines, step, walk, walkedLines, walked}

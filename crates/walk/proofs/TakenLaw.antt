@@ -15,7 +15,7 @@ use Rattle.definition.specs.Event.{Body, Event, linesFrom, tailFrom, isNil, lin
 use Rattle.definition.proofs.Base.{none-is-some, some-inj}
 use Rattle.lines.specs.Escapes.{scanned}
 use Rattle.parts.specs.declared.Part.{Part}
-use Rattle.parts.specs.declared.Walked.{Walked}
+use Rattle.parts.specs.Walked.{Walked}
 use Rattle.parts.specs.Parts.{begun, broken, withKind, withName}
 use Rattle.walk.specs.Walk.{Placed, line, placedLines, written, nameFits, onEvent, onName, step, walk, walkedLines, walked}
 use Rattle.walk.proofs.Standing.{Stands, AllStand, cons, raw-stands, decoded, decoded-lines}

@@ -16,7 +16,7 @@ use Rattle.lines.specs.Lines.{lineLength, hasHead}
 use Rattle.lines.specs.Blocks.{all, isWithinLine, isPlain}
 use Rattle.lines.specs.Parts.{part}
 use Rattle.lines.specs.declared.Tail.{Tail}
-use Rattle.parts.specs.declared.Walked.{Walked}
+use Rattle.parts.specs.Walked.{Walked}
 use Rattle.parts.specs.Parts.{broken, withKind, withName, withKey, withText, addedValue}
 use Rattle.walk.specs.declared.Found.{Found}
 use Rattle.walk.specs.declared.Lined.{Lined}

@@ -18,7 +18,7 @@ use Rattle.lines.specs.Escapes.{counted, scanned}
 use Rattle.lines.specs.Parts.{part}
 use Rattle.parts.specs.declared.Part.{Part}
 use Rattle.parts.specs.declared.Pair.{Pair}
-use Rattle.parts.specs.declared.Walked.{Walked}
+use Rattle.parts.specs.Walked.{Walked}
 use Rattle.walk.specs.Walk as W
 use Rattle.parts.specs.Parts.{broken, withKey, withValue, withText, addedValue, roomLeft}
 use Rattle.walk.specs.Walk.{Placed, line, written, fits, keyFits, valueFits, onKey, onValue, step, walk}

@@ -10,7 +10,7 @@ use Rattle.definition.specs.Event.{Line, lineOf, linesFrom, tailFrom}
 use Rattle.lines.specs.Lines.{lineLength, hasHead, restLength, eventLength}
 use Rattle.parts.specs.declared.Part.{Part}
 use Rattle.parts.specs.declared.Pair.{Pair}
-use Rattle.parts.specs.declared.Walked.{Walked}
+use Rattle.parts.specs.Walked.{Walked}
 use Rattle.parts.specs.Parts.{partAt, begun, broken}
 use Rattle.walk.specs.declared.Lined.{Lined}
 use Rattle.walk.specs.declared.Last.{Last}

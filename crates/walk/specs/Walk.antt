@@ -13,7 +13,7 @@ use Rattle.definition.specs.Event.{Line, lineOf, linesFrom, tailFrom, isNil, ki
 use Rattle.lines.specs.declared.Scan.{Scan}
 use Rattle.lines.specs.Escapes.{scanned}
 use Rattle.parts.specs.declared.Part.{Part}
-use Rattle.parts.specs.declared.Walked.{Walked}
+use Rattle.parts.specs.Walked.{Walked}
 use Rattle.parts.specs.Parts.{partAt, begun, broken, withKind, withName, withKey, withText, addedValue}
 use Rattle.walk.specs.declared.Found.{Found}
 
