@@ -50,11 +50,12 @@ pub fn feed_all(
     requires { ⌜ firstTwo (lent (tables (now chart) (now states) (now transitions) (now regions) (now entries) (now invokes) (now datums) (now parameters) (now members) (now opened) (now names) (now pending)) (now text)) p ≡ 0 ⌝ }
     ensures { λ r. ⌜ ended (r .number) (r .event) (r .position) (lent (tables (now (chart .exit)) (now (states .exit)) (now (transitions .exit)) (now (regions .exit)) (now (entries .exit)) (now (invokes .exit)) (now (datums .exit)) (now (parameters .exit)) (now (members .exit)) (now (opened .exit)) (now (names .exit)) (now (pending .exit))) (now (text .exit))) ≡ R.stream limits01 (lent (tables (now (chart .entry)) (now (states .entry)) (now (transitions .entry)) (now (regions .entry)) (now (entries .entry)) (now (invokes .entry)) (now (datums .entry)) (now (parameters .entry)) (now (members .entry)) (now (opened .entry)) (now (names .entry)) (now (pending .entry))) (now (text .entry))) p (now (bytes .entry)) ⌝ }
 {
+    let mut pairs = [[0u16; 8]; 16];
     let mut q = p;
     let mut i = 0;
     let mut n = 0;
     while i < bytes.len() {
-        let x = describe_next(&bytes[i..]);
+        let x = describe_next(&bytes[i..], &mut pairs);
         let d = x.event;
         let raw = part_of(bytes, i, x.end);
         n += 1;
@@ -78,6 +79,7 @@ pub fn feed_all(
             q,
             raw,
             d,
+            &pairs,
         );
         if a.number != 0 {
             return end(a.number, n, q);
