@@ -1,5 +1,5 @@
 -- From an event's bytes to the definition's answer.
-use Prim.Native.Nat.{ℕ, zero, suc}
+use Prim.Native.Nat.{ℕ}
 use mathlib.Core.Path.{_≡_, refl, sym, ap, _∙_, subst}
 use mathlib.Core.Bool.{Bool, true, false}
 use mathlib.Core.Option.{Option, none, some}
@@ -10,7 +10,7 @@ use Rattle.definition.specs.Limits.{limits01}
 use Rattle.definition.specs.Event.{Event, readEvent, inForm, keysDiffer}
 use Rattle.definition.specs.Rows.{Store}
 use Rattle.definition.specs.Look.{look, textAfter}
-use Rattle.definition.specs.Reader.{Lent, Answer, event, longEnough, inOrder, storeOf, Reply, settled, decided, replyTo, eventReply, answerOf, answerTo, refused, lentAfter, positionOf}
+use Rattle.definition.specs.Reader.{Lent, Answer, event, longEnough, inOrder, storeOf, Reply, settled, decided, replyTo, eventReply, answerOf, answerTo, refused}
 use Rattle.definition.proofs.Base.{true-is-false}
 use Rattle.event.specs.Description.{Described}
 use Rattle.event.specs.Described.{blank, described}
@@ -21,34 +21,8 @@ use Rattle.plain.specs.Plain.{Parsed, parsedIn, parsedRaw, plainly, PlainOf, co
 use Rattle.plain.proofs.TotalLaw as total
 use Rattle.plain.proofs.TotalLaw.{plain-total, space-total, parsed-total}
 use Rattle.questions.specs.Lent.{firstTwo}
-use Rattle.whole.specs.Accepted.{Ready, afterwards}
-use Rattle.write.specs.Leaves.{Leaves}
-use Rattle.settle.specs.declared.Settled.{Settled}
-use Rattle.settle.specs.Settled.{InForm, replied, Settles}
-use Rattle.feed.specs.Fed.{given, Answers}
-
--- ---- what is settled
-
-module _ (x : Lent) (p : Position) (v : Parsed) (s : Settled) (S : Settles x p v s) where
-  pub is-refused : (s .number ≡ 0 → ⊥) → Answers x p v (given (s .number) p x)
-  unfolding replied answerOf refused
-  is-refused r A = at (s .number) r ∙ ap (answerOf x p) (sym (S .reply A))
-    where
-      at : (k : ℕ) → (k ≡ 0 → ⊥) → given k p x ≡ answerOf x p (elim k [ zero ↦ record { number = 0; store = afterwards (storeOf x p) (A .event) (s .plan) } | suc j ↦ record { number = suc j; store = storeOf x p } ])
-      at zero n = absurd (n refl)
-      at (suc k) n = refl
-
-  pub is-accepted : (z : s .number ≡ 0) (y : Lent) (u : Position) → Leaves x p v (s .plan) y u → Answers x p v (given 0 u y)
-  unfolding replied answerOf
-  is-accepted z y u W A =
-      let R : Ready x p v (s .plan) (s .made) (s .charge) = S .ready A z in
-      let l : y ≡ lentAfter x (afterwards (storeOf x p) (A .event) (s .plan)) = W .lent (R .accepted) ∙ ap (λ (e : Event). lentAfter x (afterwards (storeOf x p) e (s .plan))) (S .same A z) in
-      let q : u ≡ positionOf (afterwards (storeOf x p) (A .event) (s .plan)) = W .position (R .accepted) ∙ ap (λ (e : Event). positionOf (afterwards (storeOf x p) e (s .plan))) (S .same A z) in
-      (λ i. given 0 (q i) (l i)) ∙ (at (afterwards (storeOf x p) (A .event) (s .plan)) (s .number) z ∙ ap (answerOf x p) (sym (S .reply A)))
-    where
-      at : (after : Store) (k : ℕ) → k ≡ 0 → given 0 (positionOf after) (lentAfter x after) ≡ answerOf x p (elim k [ zero ↦ record { number = 0; store = after } | suc j ↦ record { number = suc j; store = storeOf x p } ])
-      at after zero e = refl
-      at after (suc k) e = absurd (omega (arith, e))
+use Rattle.settle.specs.Settled.{InForm}
+use Rattle.conclude.specs.Fed.{given, Answers}
 
 -- ---- an event's bytes
 

@@ -16,7 +16,7 @@ use Rattle.event.specs.Description.{Described}
 use Rattle.event.specs.Described.{blank, described}
 use Rattle.event.proofs.DescribeLaws.{out-of-one}
 use Rattle.questions.specs.Lent.{firstTwo}
-use Rattle.feed.specs.Fed.{given}
+use Rattle.conclude.specs.Fed.{given}
 use Rattle.feed.proofs.Laws.{out-of}
 use Rattle.streams.proofs.Laws.{call-refused, call-answered}
 use Rattle.reader.specs.First.{firstOf, oneEvent}

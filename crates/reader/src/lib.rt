@@ -1,8 +1,8 @@
 // The reader: an event, a stream of events, a row. Its functions can be called from C and Rust too, through a static library: a slice crosses as a pointer and
 // a count, a position by value.
+use conclude::Answer;
+use conclude::refuse;
 use definition::Position;
-use feed::Answer;
-use feed::refuse;
 use lines::next_event;
 use questions::asked;
 use reading::read_row_bytes;
@@ -14,7 +14,7 @@ ghost use Rattle.definition.specs.Limits.{limits01};
 ghost use Rattle.definition.specs.Reader as R;
 ghost use Rattle.questions.specs.Lent.{tables, lent};
 ghost use Rattle.reading.specs.Bytes.{outOf, rowOut};
-ghost use Rattle.feed.specs.Fed.{given};
+ghost use Rattle.conclude.specs.Fed.{given};
 ghost use Rattle.streams.specs.Stream.{ended};
 ghost use Rattle.reader.specs.First.{firstOf, oneEvent};
 

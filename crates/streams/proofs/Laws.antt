@@ -20,8 +20,8 @@ use Rattle.walk.proofs.StreamLaws.{event-within}
 use Rattle.event.specs.Description.{Described}
 use Rattle.event.specs.Described.{described}
 use Rattle.questions.specs.Lent.{firstTwo}
-use Rattle.feed.specs.declared.Answer as F
-use Rattle.feed.specs.Fed.{given}
+use Rattle.conclude.specs.declared.Answer as F
+use Rattle.conclude.specs.Fed.{given}
 use Rattle.streams.specs.declared.Streamed as T
 use Rattle.streams.specs.Stream.{ended}
 

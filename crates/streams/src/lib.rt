@@ -1,7 +1,7 @@
 // The events of a stream, one after another.
+use conclude::Answer;
 use definition::Position;
 use event::describe_next;
-use feed::Answer;
 use feed::feed;
 use lines::part_of;
 ghost use mathlib.Core.Path.{_≡_};

@@ -9,7 +9,7 @@ use Rattle.feed.proofs.feed_copy.Statement.{statement}
 use Rattle.feed.proofs.feed_copy.Tie as tie
 use Rattle.feed.proofs.feed_copy.Reads as reads
 use Rattle.feed.proofs.feed_copy.Lts as lts
-use Rattle.feed.proofs.feed_parsed.Reads as feed-parsed-reads
+use Rattle.conclude.proofs.feed_parsed.Reads as feed-parsed-reads
 use Rattle.plain.proofs.unescape_all.Reads as unescape-all-reads
 
 slice-aggregate-unescape-all : tie.Need-slice-aggregate-unescape-all

@@ -7,7 +7,7 @@ use Rattle.reader.proofs.chart_event.Statement.{statement}
 use Rattle.reader.proofs.chart_event.Tie as tie
 use Rattle.reader.proofs.chart_event.Reads as reads
 use Rattle.reader.proofs.chart_event.Lts as lts
-use Rattle.feed.proofs.refuse.Reads as refuse-reads
+use Rattle.conclude.proofs.refuse.Reads as refuse-reads
 use Rattle.questions.proofs.asked.Reads as asked-reads
 use Rattle.reader.proofs.answer_of.Reads as answer-of-reads
 use Rattle.reader.proofs.first_of.Reads as first-of-reads

@@ -1,11 +1,11 @@
 use Rattle.questions.specs.Lent.{tables, lent}
 use Rattle.plain.specs.Plain.{parsedIn}
 use borrow.Author.Needs.{needs}
-use Rattle.feed.proofs.feed_parsed.Statement.{statement}
-use Rattle.feed.proofs.feed_parsed.Tie as tie
-use Rattle.feed.proofs.feed_parsed.Reads as reads
-use Rattle.feed.proofs.feed_parsed.Lts as lts
-use Rattle.feed.proofs.conclude.Reads as conclude-reads
+use Rattle.conclude.proofs.feed_parsed.Statement.{statement}
+use Rattle.conclude.proofs.feed_parsed.Tie as tie
+use Rattle.conclude.proofs.feed_parsed.Reads as reads
+use Rattle.conclude.proofs.feed_parsed.Lts as lts
+use Rattle.conclude.proofs.conclude.Reads as conclude-reads
 use Rattle.settle.proofs.settle.Reads as settle-reads
 
 settle-requires : tie.Need-settle-requires

@@ -2,15 +2,15 @@ use mathlib.Core.Path.{sym, ap, subst}
 use Rattle.definition.specs.declared.Position.{Position}
 use Rattle.questions.specs.Lent.{tables, lent}
 use Rattle.plain.specs.Plain.{parsedIn}
-use Rattle.feed.specs.declared.Answer.{Answer}
-use Rattle.feed.specs.Fed.{given, Answers}
-use Rattle.feed.proofs.Laws.{is-refused, is-accepted}
+use Rattle.conclude.specs.declared.Answer.{Answer}
+use Rattle.conclude.specs.Fed.{given, Answers}
+use Rattle.conclude.proofs.Laws.{is-refused, is-accepted}
 use borrow.Author.Needs.{needs}
-use Rattle.feed.proofs.conclude.Statement.{statement}
-use Rattle.feed.proofs.conclude.Tie as tie
-use Rattle.feed.proofs.conclude.Reads as reads
-use Rattle.feed.proofs.conclude.Lts as lts
-use Rattle.feed.proofs.refuse.Reads as refuse-reads
+use Rattle.conclude.proofs.conclude.Statement.{statement}
+use Rattle.conclude.proofs.conclude.Tie as tie
+use Rattle.conclude.proofs.conclude.Reads as reads
+use Rattle.conclude.proofs.conclude.Lts as lts
+use Rattle.conclude.proofs.refuse.Reads as refuse-reads
 use Rattle.write.proofs.write.Reads as write-reads
 
 refuse-requires : tie.Need-refuse-requires
