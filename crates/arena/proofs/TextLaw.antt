@@ -1,30 +1,30 @@
 -- THE LAW OF AN EVENT'S TEXTS: the table is the look's.
-use Prim.Native.Nat.{ℕ, zero, suc, _+_, _≤_, _<_}
+use Prim.Native.Nat.{ℕ, suc, _+_, _<_}
 use mathlib.Core.Path.{_≡_, refl, sym, ap, ap₂, _∙_, subst}
 use mathlib.Core.Bool.{Bool, true, false, _&&_, _||_}
 use mathlib.Core.Option.{Option, none, some}
-use mathlib.Core.List.{List, [], _∷_, _++_, append-nil, append-assoc, map}
+use mathlib.Core.List.{List, [], _∷_, _++_, append-assoc, map}
 use native.Mathlib.Omega.{arith}
 use lib.Dec.{eqb}
 use lib.ListN.{length, getD, replicate, length-append}
-use borrow.Author.Tests.{eq-eqb, ne-eqb, eqb-true}
+use borrow.Author.Tests.{ne-eqb}
 use Rattle.definition.specs.Text.{Span, quoted, trim}
 use Rattle.definition.specs.Elements.{Role, plain, roleOf, isMasked, isName, isNames, among, keyOf, tagOf}
 use Rattle.definition.specs.Event.{Attribute, Event}
-use Rattle.definition.specs.Rows.{Cell, noCell, Store}
-use Rattle.definition.specs.Look.{Load, Field, valueLoads, textLoads, hasLoad, nameLoads, isGenerated, payload, loadsOf, fieldBy, fieldsFrom, wordsByRole, wordSpans, isEvents, isNamelist, shift, look}
+use Rattle.definition.specs.Rows.{Cell, noCell}
+use Rattle.definition.specs.Look.{Load, valueLoads, textLoads, hasLoad, nameLoads, isGenerated, payload, loadsOf, fieldBy, fieldsFrom, wordsByRole, wordSpans, isEvents, isNamelist, shift}
 use Rattle.definition.specs.Change.{fieldIn, fieldCell, trimmedCell}
 use Rattle.words.proofs.Laws.{by}
+use Rattle.definition.proofs.Base.{key-small}
 use Rattle.plain.specs.Plain.{parsedOf}
 use Rattle.plain.specs.Keyed.{valueIn, offsetIn}
-use Rattle.plain.proofs.ValueLaws.{offset-here, offset-past}
-use Rattle.heard.proofs.FieldLaw.{fieldOf, field-is, field-some, field-no}
+use Rattle.plain.proofs.ValueLaws.{offset-past}
+use Rattle.heard.proofs.FieldLaw.{field-is, field-some, field-no}
 use Rattle.plain.proofs.ValueLaws.{has-append, has-behind, value-append, value-behind}
 use Rattle.payload.specs.Payload.{madeIn, allLoads}
 use Rattle.fill.specs.Fill.{cell, textsOf}
 use Rattle.texts.specs.Texts.{closed, textsIn}
 use Rattle.texts.proofs.LookLaw.{texts-law}
-use Rattle.heard.proofs.QuestionLaw.{key-small}
 use Rattle.texts.specs.EventTexts.{trimmedOf, quotedOf, eventTexts}
 
 offset-behind : (k : ℕ) (is js : List Load) → hasLoad k is ≡ false → offsetIn k (is ++ js) ≡ length (payload is) + offsetIn k js

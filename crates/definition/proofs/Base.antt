@@ -5,11 +5,11 @@ use mathlib.Core.Bool.{Bool, true, false, _&&_, cond}
 use mathlib.Core.Option.{Option, none, some}
 use mathlib.Core.List.{List, [], _∷_, _++_}
 use lib.ListN.{length, getD, set}
-use lib.Dec.{T, eqb, leb, leb→le}
-use borrow.Author.Tests.{eqb-true, eq-eqb}
+use lib.Dec.{T, eqb, ltb, leb, leb→le}
+use borrow.Author.Tests.{eqb-true, eq-eqb, ltb-true}
 use native.Mathlib.Omega.{arith}
-use Rattle.definition.specs.Text.{same}
-use Rattle.definition.specs.Elements.{Role, name, names, masked, plain}
+use Rattle.definition.specs.Text.{same, placeIn}
+use Rattle.definition.specs.Elements.{Role, name, names, masked, plain, numberIn, keyNames, keyOf}
 use Rattle.definition.specs.Shapes.{rank, sameRole}
 
 pub and-left : (p q : Bool) → (p && q) ≡ true → p ≡ true
@@ -36,6 +36,11 @@ T-of false e = true-is-false (sym e)
 pub is-true : (c : Bool) → T c → c ≡ true
 is-true true t = refl
 is-true false t = absurd t
+
+-- A test: both answers, with what they say.
+pub test : {X : Type 0} (c : Bool) → (c ≡ true → X) → (c ≡ false → X) → X
+test true f g = f refl
+test false f g = g refl
 
 pub le-of : (a b : ℕ) → leb a b ≡ true → a ≤ b
 le-of a b e = leb→le a b (T-of (leb a b) e)
@@ -106,7 +111,7 @@ abbrev pub All {ℓ} : {A : Type ℓ} → (A → Type 0) → List A → Type 0
 All P [] = Unit {0}
 All P (x ∷ xs) = P x × All P xs
 
-pub All-append : {A : Type 0} (P : A → Type 0) (xs ys : List A) → All P xs → All P ys → All P (xs ++ ys)
+pub All-append {ℓ} : {A : Type ℓ} (P : A → Type 0) (xs ys : List A) → All P xs → All P ys → All P (xs ++ ys)
 All-append P [] ys a b = b
 All-append P (x ∷ xs) ys a b = (a .0, All-append P xs ys (a .1) b)
 
@@ -126,7 +131,7 @@ at-place P d (x ∷ xs) a zero = a .0
 at-place P d (x ∷ xs) a (suc i) = at-place (λ j. P (suc j)) d xs (a .1) i
 
 -- What stands at a place after a set: the new value, or what stood there.
-pub getD-set : {A : Type 0} (P : ℕ → A → Type 0) (xs : List A) (d : A) (k : ℕ) (x : A) → ((i : ℕ) → P i (getD xs i d)) → P k x → (i : ℕ) → P i (getD (set xs k x) i d)
+pub getD-set {ℓ} : {A : Type ℓ} (P : ℕ → A → Type 0) (xs : List A) (d : A) (k : ℕ) (x : A) → ((i : ℕ) → P i (getD xs i d)) → P k x → (i : ℕ) → P i (getD (set xs k x) i d)
 getD-set P [] d k x h p i = h i
 getD-set P (y ∷ ys) d zero x h p zero = p
 getD-set P (y ∷ ys) d zero x h p (suc i) = h (suc i)
@@ -137,3 +142,16 @@ pub getD-append : {A : Type 0} (P : A → Type 0) (xs ys : List A) (d : A) → (
 getD-append P [] ys d h k i = k i
 getD-append P (x ∷ xs) ys d h k zero = h zero
 getD-append P (x ∷ xs) ys d h k (suc i) = getD-append P xs ys d (λ j. h (suc j)) k i
+
+-- ---- a name's number is at most how many names there are
+
+pub number-small : (ns : List (List ℕ)) (w : List ℕ) → numberIn ns w ≤ length ns
+unfolding numberIn
+number-small ns w =
+    test (ltb (placeIn ns w) (length ns))
+    (λ q. let z : numberIn ns w ≡ suc (placeIn ns w) = rw (q, numberIn) in omega (arith, z, ltb-true (placeIn ns w) (length ns) q))
+    (λ q. let z : numberIn ns w ≡ 0 = rw (q, numberIn) in omega (arith, z))
+
+pub key-small : (w : List ℕ) → keyOf w ≤ 28
+unfolding keyOf keyNames
+key-small w = number-small keyNames w

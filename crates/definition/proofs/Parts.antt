@@ -11,8 +11,7 @@ use Rattle.definition.specs.Text.{Span, bytesAt, isSpace, Piece, wordsBy
 use Rattle.definition.specs.Elements.{key}
 use Rattle.definition.specs.Look.{spanOf, isEvents, isNamelist, wordSpans}
 use Rattle.definition.proofs.Base.{All}
-use Rattle.definition.proofs.Words.{Located, pieces-located}
-use Rattle.definition.proofs.Names.{bytesAt-append}
+use Rattle.definition.proofs.Places.{bytesAt-append, Located, pieces-located}
 
 abbrev pub Inside : List ℕ → Span → Type 0
 Inside v sp = sp .off + sp .len ≤ length v

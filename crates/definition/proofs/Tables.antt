@@ -1,4 +1,4 @@
--- Rows keep their relation when the texts grow, and a row whose sources fit is related: whatever a handler asks for.
+-- Columns of numbers, of texts and of their lengths are apart: a number that is put into a row changes no text.
 use Prim.Native.Nat.{ℕ, zero, suc, _<_}
 use mathlib.Core.Path.{_≡_, refl, sym, ap, _∙_}
 use mathlib.Core.Bool.{Bool, true, false, _&&_}
@@ -9,9 +9,8 @@ use lib.Dec.{eqb}
 use borrow.Author.Tests.{eqb-true, eq-eqb}
 use native.Mathlib.Omega.{arith}
 use Rattle.definition.specs.Elements.{Role}
-use Rattle.definition.specs.Rows.{Row, schema, Class, free, own, docId, above, mark, len, code, row, existing, text, by, textRole, columnsOf, num, Cell, cellAt, withCell}
+use Rattle.definition.specs.Rows.{Row, schema, Class, free, own, docId, above, mark, len, code, row, existing, text, by, textRole, roleAt, columnsOf, num, Cell, cellAt, withCell}
 use Rattle.definition.specs.Change.{isNumber}
-use Rattle.definition.specs.Renaming.{roleAt}
 use Rattle.definition.proofs.Base.{and-left, and-right, true-is-false, none-is-some}
 
 -- ---- columns

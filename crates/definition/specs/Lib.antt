@@ -13,5 +13,3 @@ pub mod Actions
 pub mod Rules
 pub mod Reader
 pub mod Stars
-pub mod Renaming
-pub mod Uses

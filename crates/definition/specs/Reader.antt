@@ -1,6 +1,6 @@
 -- Document 01, 'The reader's questions': an event, a reading, a call from lent slices, a list of calls, a stream.
 use Prim.Native.Nat.{ℕ, zero, suc}
-use mathlib.Core.Bool.{Bool, true, false, _&&_, _||_, not}
+use mathlib.Core.Bool.{Bool, true, false, _&&_, not, _||_}
 use mathlib.Core.Option.{Option, none, some}
 use mathlib.Core.List.{List, [], _∷_, _++_}
 use lib.ListN.{length, getD, take, drop, replicate}
@@ -10,7 +10,7 @@ use Rattle.definition.specs.declared.Position.{Position}
 use Rattle.definition.specs.Elements.{tag, key, leftOutKeys, requirements, requiredIn, Apart, exclusions, codings, wordsTaken}
 use Rattle.definition.specs.Nesting.{parentAllowed}
 use Rattle.definition.specs.Event.{Event, readEvent, inForm, keysDiffer, kind, eventsOf}
-use Rattle.definition.specs.Rows.{Row, Table, table, shown, entryKind, ownerKind, list, state, entry, invoke, parameter, num, rowOf, Cell, noCell, cellAt, withCell, Numbers, tableOf, Store, parentTag, root}
+use Rattle.definition.specs.Rows.{Row, Table, table, shown, entryKind, ownerKind, list, state, entry, invoke, parameter, blank, num, rowOf, Cell, noCell, cellAt, withCell, Numbers, tableOf, Store, parentTag, root}
 use Rattle.definition.specs.Look.{Look, look, textAfter}
 use Rattle.definition.specs.Change.{Change, Outcome, done, refuse, nothing, entered, made, pushed, popped, has, lengthOf, codeFor, wordsOf}
 use Rattle.definition.specs.States.{startScxml, startState, startParallel, startFinal, startHistory, startInitial, startDonedata, startData, endState, endScxml}
@@ -454,3 +454,14 @@ start =
       used = 0;
       charge = 0;
     }
+
+-- The chart that both lists of demand 3 start from: slices of zeros, of any lengths.
+unfoldable pub zeroTables : ℕ → List ℕ → List Table
+unfolding blank
+zeroTables t [] = []
+zeroTables t (k ∷ ks) = replicate k (blank t) ∷ zeroTables (suc t) ks
+
+-- ks: how many rows each of the twelve slices has; k: how many bytes the text.
+unfoldable pub zeros : List ℕ → ℕ → Lent
+unfolding zeroTables
+zeros ks k = record { tables = zeroTables 0 ks; text = replicate k 0 }

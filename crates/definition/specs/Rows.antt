@@ -567,6 +567,11 @@ unfoldable pub columnsOf : ℕ → List Class
 unfolding schema
 columnsOf t = getD schema t []
 
+-- The role of a text column.
+unfoldable pub roleAt : ℕ → ℕ → Option Role
+unfolding textRole columnsOf
+roleAt t c = textRole (getD (columnsOf t) c free)
+
 -- ---- rows
 
 unfoldable pub blank : ℕ → Row

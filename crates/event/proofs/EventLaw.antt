@@ -2,7 +2,7 @@
 use Prim.Native.Nat.{ℕ, zero, suc, _+_, _≤_}
 use mathlib.Core.Path.{_≡_, refl, sym, ap, ap₂, _∙_, subst}
 use mathlib.Core.Bool.{Bool, true, false, _&&_, not}
-use mathlib.Core.Option.{Option, none, some}
+use mathlib.Core.Option.{Option}
 use mathlib.Core.List.{List, [], _∷_, map}
 use lib.ListN.{length, take}
 use lib.Dec.{eqb, leb, eqb·suc-zero}
@@ -23,7 +23,7 @@ use Rattle.walk.proofs.WalkLaw.{TextReads, walk-no-text, walk-text, Stopped}
 use Rattle.walk.proofs.TakenLaw.{Carries, Within, Taken, whole, too-long, none-of, taken-law}
 use Rattle.event.specs.Description.{Described}
 use Rattle.event.specs.Described.{blank, descriptionOf, shapeFits, inShape, read, pairKeys, isAmong, allDiffer, finished, described}
-use Rattle.event.specs.Agrees.{TextDescribed, no-text, a-text, Describes, Agrees, out-of-form, keys-repeat, in-form, answer}
+use Rattle.event.specs.Agrees.{TextDescribed, no-text, a-text, Describes, Agrees, out-of-form, keys-repeat, in-form}
 
 -- ---- keys
 
@@ -167,26 +167,3 @@ module _ (raw : List ℕ) where
   pub agrees : Agrees raw (described raw)
   unfolding described
   agrees = finish-law (walked raw) (taken-law raw)
-
-refused : (o : Option Event) → ((e : Event) → o ≡ some e → inForm limits01 e ≡ true → ⊥) → 3 ≡ answer o
-unfolding answer
-refused none f = refl
-refused (some e) f = go (inForm limits01 e) refl
-  where
-    go : (p : Bool) → inForm limits01 e ≡ p → 3 ≡ answer (some e)
-    go true q = absurd (f e refl q)
-    go false q = rw (q, answer)
-
-answered : (e : Event) (p : Bool) → inForm limits01 e ≡ true → keysDiffer (e .attributes) ≡ p → elim p as (λ b. ℕ) [ true ↦ 0 | false ↦ 4 ] ≡ answer (some e)
-unfolding answer
-answered e true f k = rw (f, answer, k, answer)
-answered e false f k = rw (f, answer, k, answer)
-
-pub number-law : (raw : List ℕ) → described raw .number ≡ answer (readEvent raw)
-unfolding blank
-number-law raw = go (agrees raw)
-  where
-    go : {d : Described} → Agrees raw d → d .number ≡ answer (readEvent raw)
-    go (out-of-form e f) = ap (λ (x : Described). x .number) e ∙ refused (readEvent raw) f
-    go (keys-repeat w e r f k) = ap (λ (x : Described). x .number) e ∙ answered w false f k ∙ ap answer (sym r)
-    go (in-form w r f k d) = d .number ∙ answered w true f k ∙ ap answer (sym r)

@@ -1,3 +1,4 @@
 pub mod EventLaw
 pub mod KeyLaws
 pub mod DescribeLaws
+pub mod OneLaws

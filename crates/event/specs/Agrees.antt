@@ -33,8 +33,3 @@ pub data Agrees (raw : List ℕ) (d : Described) : Type 0 where
   out-of-form : d ≡ blank 3 → ((e : Event) → readEvent raw ≡ some e → inForm limits01 e ≡ true → ⊥) → Agrees raw d
   keys-repeat : (e : Event) → d ≡ blank 4 → readEvent raw ≡ some e → inForm limits01 e ≡ true → keysDiffer (e .attributes) ≡ false → Agrees raw d
   in-form : (e : Event) → readEvent raw ≡ some e → inForm limits01 e ≡ true → keysDiffer (e .attributes) ≡ true → Describes raw d e → Agrees raw d
-
--- The number alone, as one equation: 3 out of form, 4 where keys repeat, else 0.
-unfoldable pub answer : Option Event → ℕ
-answer none = 3
-answer (some e) = elim (inForm limits01 e) [ true ↦ elim (keysDiffer (e .attributes)) [ true ↦ 0 | false ↦ 4 ] | false ↦ 3 ]

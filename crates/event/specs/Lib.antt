@@ -1,3 +1,4 @@
 pub mod Description
 pub mod Described
 pub mod Agrees
+pub mod One

@@ -1,4 +1,5 @@
 // The description of an event's bytes: questions 3 and 4, then numbers, and where each text stands.
+use lines::next_event;
 use lines::part_of;
 use lines::same_text;
 use nesting::holds_text;
@@ -18,6 +19,7 @@ ghost use Rattle.parts.specs.Parts.{noPair, pairsOf};
 ghost use Rattle.definition.specs.Text.{same};
 ghost use Rattle.definition.specs.Elements.{keyOf};
 ghost use Rattle.event.specs.Described.{Coded, blank, describedBy, headOf, shapeFits, read, pairKeys, isAmong, allDiffer, described};
+ghost use Rattle.event.specs.One.{oneEvent};
 
 // An event's bytes taken apart: its kind from 0 and its element's number; the first `count` of the rows that are lent beside it are its attributes, in order. Of
 // kind 2, `whole`, `text` is the text. A refused event has the number of the question that is answered no, and zeros.
@@ -173,4 +175,17 @@ pub fn describe_next(stream: &[u8], pairs: &mut [[u16; 8]]) -> Next
         return next_of(blank_with(4, pairs), end);
     }
     next_of(head_of(w), end)
+}
+
+// 3 for bytes that hold no event or more than one: they are out of form.
+pub fn one_event(raw: &[u8]) -> u32
+    ensures { λ r. ⌜ r ≡ oneEvent (now (raw .entry)) ⌝ }
+{
+    if raw.len() == 0 {
+        return 3;
+    }
+    if next_event(raw, 0) < raw.len() {
+        return 3;
+    }
+    0
 }

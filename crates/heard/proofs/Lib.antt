@@ -1,6 +1,2 @@
 pub mod CodeLaws
 pub mod FieldLaw
-pub mod AskedLaws
-pub mod QuestionLaw
-pub mod FoundLaws
-pub mod FoundLaw

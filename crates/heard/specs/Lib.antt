@@ -1,3 +1,1 @@
 pub mod Heard
-pub mod Asked
-pub mod Found

@@ -11,9 +11,9 @@ use Rattle.definition.specs.Elements.{key, Role, name, names, masked, plain, ro
 use Rattle.definition.specs.Event.{Event, kind}
 use Rattle.definition.specs.Look.{Load, valueLoads, textLoads, hasLoad, isGenerated, nameLoads, payload, wordSpans, shift, wordsByRole, fieldBy, fieldsFrom, ownName, wordNames, namesFrom, namesBrought, loadsOf}
 use Rattle.definition.specs.Rules.{isInside}
-use Rattle.definition.proofs.Words.{Located, located-at, pieces-located, drop-past}
+use Rattle.definition.proofs.Places.{Located, located-at, pieces-located, drop-past}
 use Rattle.definition.proofs.Parts.{Inside, parts-inside}
-use Rattle.definition.proofs.Loads.{id-name}
+use Rattle.definition.proofs.Roles.{id-name}
 use Rattle.kept.proofs.Base.{leb-of, eq-of, and-both, false-is-true, test, All, All-append}
 use Rattle.kept.proofs.RowCells.{CellIn}
 use Rattle.kept.proofs.RowTexts.{FieldIn}

@@ -10,44 +10,11 @@ use Rattle.definition.specs.Text.{same, Piece}
 use Rattle.definition.specs.Rows.{Cell, textFrom, textAt}
 use Rattle.definition.specs.Look.{spanOf, findName, pieceCell, enter, Resolved, resolve}
 use Rattle.definition.specs.Rules.{isInside, namesLead}
-use Rattle.definition.proofs.Words.{Located}
-use Rattle.definition.proofs.Names.{bytesAt-append}
-use Rattle.definition.proofs.Base.{same-refl}
+use Rattle.definition.proofs.Places.{bytesAt-append, Located}
+use Rattle.definition.proofs.Finds.{find-hit, find-miss, find-le, find-more, find-new}
 use Rattle.kept.proofs.Base.{T-of, le-of, leb-of, eq-of, eqb-of, and-left, and-right, and-both, test, All, All-map, All-append}
 use Rattle.kept.proofs.RowCells.{CellIn}
 use Rattle.kept.proofs.Grow.{inside-grow}
-
--- ---- finding
-
-find-hit : (t : List ℕ) (c : Cell) (cs : List Cell) (w : List ℕ) → same (textAt t c) w ≡ true → findName t (c ∷ cs) w ≡ 0
-unfolding findName
-find-hit t c cs w e = rw (e, findName)
-
-find-miss : (t : List ℕ) (c : Cell) (cs : List Cell) (w : List ℕ) → same (textAt t c) w ≡ false → findName t (c ∷ cs) w ≡ suc (findName t cs w)
-unfolding findName
-find-miss t c cs w e = rw (e, findName)
-
-pub find-le : (t : List ℕ) (cs : List Cell) (w : List ℕ) → findName t cs w ≤ length cs
-unfolding findName
-find-le t [] w = omega arith
-find-le t (c ∷ cs) w =
-    let ih : findName t cs w ≤ length cs = find-le t cs w in
-    test (same (textAt t c) w) (λ e. omega (arith, find-hit t c cs w e)) (λ e. omega (arith, find-miss t c cs w e, ih))
-
--- One more name changes nothing for a name that was found.
-find-more : (t : List ℕ) (cs ds : List Cell) (w : List ℕ) → findName t cs w < length cs → findName t (cs ++ ds) w ≡ findName t cs w
-find-more t [] ds w h = absurd (omega arith)
-find-more t (c ∷ cs) ds w h =
-    test (same (textAt t c) w) (λ e. find-hit t c (cs ++ ds) w e ∙ sym (find-hit t c cs w e)) (λ e.
-    let k : findName t cs w < length cs = omega (arith, h, find-miss t c cs w e) in
-    find-miss t c (cs ++ ds) w e ∙ ap suc (find-more t cs ds w k) ∙ sym (find-miss t c cs w e))
-
-find-new : (t : List ℕ) (cs : List Cell) (d : Cell) (w : List ℕ) → length cs ≤ findName t cs w → textAt t d ≡ w → findName t (cs ++ d ∷ []) w ≡ length cs
-unfolding findName
-find-new t [] d w h e = find-hit t d [] w (ap (λ (x : List ℕ). same x w) e ∙ same-refl w)
-find-new t (c ∷ cs) d w h e =
-    test (same (textAt t c) w) (λ f. absurd (omega (arith, h, find-hit t c cs w f))) (λ f.
-    let k : length cs ≤ findName t cs w = omega (arith, h, find-miss t c cs w f) in find-miss t c (cs ++ d ∷ []) w f ∙ ap suc (find-new t cs d w k e))
 
 -- ---- names that lead to their places
 

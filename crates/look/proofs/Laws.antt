@@ -11,17 +11,18 @@ use Rattle.definition.specs.Text.{Piece}
 use Rattle.definition.specs.Rows.{Row, Table, Cell, num, lastOf}
 use Rattle.definition.specs.Look.{findDatum, nameCells, isInnermost}
 use Rattle.definition.specs.Reader.{firstNo}
+use Rattle.definition.proofs.Finds.{find-le}
 use Rattle.words.proofs.Laws.{by}
 use Rattle.names.specs.declared.Names.{Names}
 use Rattle.names.specs.Names.{firstOf, counted, broughtIn, namesIn}
-use Rattle.names.proofs.Laws.{find-le, cells-length}
+use Rattle.names.proofs.Laws.{cells-length}
 use Rattle.plain.specs.declared.Plain.{Plain}
 use Rattle.plain.specs.Plain.{slotBytes, Parsed, parsedIn}
 use Rattle.plain.specs.Keyed.{valueIn}
 use Rattle.plan.specs.declared.Heard.{Heard}
 use Rattle.heard.specs.Heard.{heardIn}
-use Rattle.heard.specs.Asked.{askedIn, questionsBy}
-use Rattle.heard.specs.Found.{foundIn, isDatum}
+use Rattle.asked.specs.Asked.{askedIn, questionsBy}
+use Rattle.found.specs.Found.{foundIn, isDatum}
 use Rattle.payload.specs.Payload.{madeIn, chargeIn}
 use Rattle.look.specs.Looked.{lookedIn}
 

@@ -18,11 +18,11 @@ use Rattle.plain.specs.Plain.{Parsed, parsedOf, parsedRaw}
 use Rattle.plain.proofs.TotalLaw.{InForm}
 use Rattle.plan.specs.declared.Heard.{Heard}
 use Rattle.plan.specs.Heard.{heard}
-use Rattle.heard.specs.Asked.{askedIn, questionsBy}
-use Rattle.heard.specs.Found.{ids, foundIn}
+use Rattle.asked.specs.Asked.{askedIn, questionsBy}
+use Rattle.found.specs.Found.{ids, foundIn}
 use Rattle.heard.proofs.FieldLaw.{heard-law}
-use Rattle.heard.proofs.QuestionLaw.{questions-law}
-use Rattle.heard.proofs.FoundLaw.{found-law, innermost-law}
+use Rattle.asked.proofs.QuestionLaw.{questions-law}
+use Rattle.found.proofs.FoundLaw.{found-law, innermost-law}
 use Rattle.payload.proofs.PayloadLaw.{charge-law, made-law}
 use Rattle.look.specs.Looked.{lookedIn, lookedOf, Tells, LooksRight}
 

@@ -17,8 +17,8 @@ use Rattle.plain.specs.Plain.{Parsed, parsedOf}
 use Rattle.plan.specs.declared.Heard.{Heard}
 use Rattle.plan.specs.Heard.{heard}
 use Rattle.heard.specs.Heard.{heardIn}
-use Rattle.heard.specs.Asked.{askedIn, questionsBy}
-use Rattle.heard.specs.Found.{ids, foundIn}
+use Rattle.asked.specs.Asked.{askedIn, questionsBy}
+use Rattle.found.specs.Found.{ids, foundIn}
 use Rattle.payload.specs.Payload.{madeIn, chargeIn}
 use Rattle.look.specs.declared.Looked.{Looked}
 

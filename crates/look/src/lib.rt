@@ -1,12 +1,12 @@
 // Stage 1: all that is read of an event's text and of the tables by name, as numbers. The slices are the parts in use.
+use asked::first_no;
 use definition::Position;
 use definition::StateId;
 use definition::cells::ChartColumn;
 use definition::cells::OpenColumn;
-use heard::first_no;
-use heard::found;
+use found::found;
+use found::is_innermost;
 use heard::heard;
-use heard::is_innermost;
 use names::look_names;
 use payload::charge;
 use payload::is_made;

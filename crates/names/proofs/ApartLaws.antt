@@ -14,9 +14,9 @@ use Rattle.definition.specs.Rows.{Table, Cell, textAt, cellAt}
 use Rattle.definition.specs.Look.{findName, nameCells}
 use Rattle.definition.specs.Rules.{namesLead}
 use Rattle.definition.proofs.Base.{same-eq, true-is-false}
+use Rattle.definition.proofs.Finds.{find-miss}
 use Rattle.words.proofs.Laws.{by}
 use Rattle.names.specs.Names.{endsSo, lastLike, isNamed}
-use Rattle.names.proofs.Laws.{find-miss}
 use Rattle.names.proofs.LikeLaws.{Ending, like-not}
 
 -- ---- names that lead to their rows

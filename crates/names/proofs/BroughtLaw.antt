@@ -12,7 +12,7 @@ use Rattle.definition.specs.Elements.{key, Role, names, roleOf, isMasked, isNam
 use Rattle.definition.specs.Event.{Attribute, Event, hasKey, keysDiffer}
 use Rattle.definition.specs.Look.{Load, valueLoads, textLoads, hasLoad, isGenerated, nameLoads, loadsOf, ownName, wordNames, namesFrom, namesBrought}
 use Rattle.definition.proofs.Base.{same-refl, same-eq, true-is-false}
-use Rattle.definition.proofs.Loads.{id-name}
+use Rattle.definition.proofs.Roles.{id-name}
 use Rattle.text.proofs.Laws.{place-here, place-next}
 use Rattle.words.proofs.Laws.{by}
 use Rattle.plain.specs.Keyed.{valueIn, offsetIn}

@@ -12,6 +12,7 @@ use borrow.Author.Tests.{ltb-true, ltb-false}
 use Rattle.definition.specs.Text.{same, bytesAt, Piece, pieces, emit, isSeparator, stateWords, wordsBy}
 use Rattle.definition.specs.Rows.{Cell, textAt, textFrom, cellAt}
 use Rattle.definition.specs.Look.{findName, nameCells}
+use Rattle.definition.proofs.Finds.{find-hit, find-miss}
 use Rattle.text.proofs.Laws.{same-empty}
 use Rattle.words.specs.declared.Word.{Word}
 use Rattle.words.specs.Next.{nextWord, pieceAt}
@@ -41,21 +42,6 @@ module _ (t : List ℕ) (at len : ℕ) (w : List ℕ) where
   cell-same off long r h e f g = g ∙ ap (λ (n : ℕ). same (bytesAt t (record { off = off; len = n })) w) f ∙ ap (λ (x : List ℕ). same x w) (cell-bytes off h e)
 
 -- ---- finding a name
-
-pub find-hit : (t : List ℕ) (c : Cell) (cs : List Cell) (w : List ℕ) → same (textAt t c) w ≡ true → findName t (c ∷ cs) w ≡ 0
-unfolding findName
-find-hit t c cs w e = rw (e, findName)
-
-pub find-miss : (t : List ℕ) (c : Cell) (cs : List Cell) (w : List ℕ) → same (textAt t c) w ≡ false → findName t (c ∷ cs) w ≡ suc (findName t cs w)
-unfolding findName
-find-miss t c cs w e = rw (e, findName)
-
-pub find-le : (t : List ℕ) (cs : List Cell) (w : List ℕ) → findName t cs w ≤ length cs
-unfolding findName
-find-le t [] w = omega arith
-find-le t (c ∷ cs) w =
-    let ih : findName t cs w ≤ length cs = find-le t cs w in
-    by (same (textAt t c) w) (λ e. omega (arith, find-hit t c cs w e)) (λ e. omega (arith, find-miss t c cs w e, ih))
 
 pub cells-length : (rs : List (List ℕ)) → length (nameCells rs) ≡ length rs
 unfolding nameCells

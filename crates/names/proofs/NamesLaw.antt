@@ -17,8 +17,7 @@ use Rattle.definition.specs.Rows.{Cell, table, tableOf, Store}
 use Rattle.definition.specs.Look.{Load, look, valueLoads, textLoads, nameLoads, isGenerated, loadsOf, payload, namesBrought, namesFrom, resolve, nameCells, findName}
 use Rattle.definition.specs.States.{ownState}
 use Rattle.definition.proofs.Base.{All, true-is-false, and-left, and-right}
-use Rattle.definition.proofs.Words.{Total, Located}
-use Rattle.definition.proofs.Fields.{brought-located}
+use Rattle.definition.proofs.Places.{Located, brought-located}
 use Rattle.words.specs.Next.{moved}
 use Rattle.words.proofs.Laws.{by}
 use Rattle.plain.specs.Plain.{Parsed, parsedOf}
@@ -92,9 +91,6 @@ pub record Brings (s : Store) (e : Event) (r : Names) : Type 0 where
   pub refs : r .refs ≡ length (look s e .refs)
   pub known : length (nameCells (tableOf (s .numbers) (table .states))) + r .new ≡ length (look s e .known)
 
-identity : Total (λ (w : List ℕ). w)
-identity = record { inj = λ a b e. e; len = λ a. refl; word = λ a t. t; other = λ a h. refl; keeps = λ a t. refl }
-
 module _ (s : Store) (e : Event) (fit : inForm limits01 e ≡ true) (differ : keysDiffer (e .attributes) ≡ true) (inside : All (Inside (s .text)) (nameCells (tableOf (s .numbers) (table .states)))) where
   abbrev g : ℕ
   g = tagOf (e .name)
@@ -122,7 +118,7 @@ module _ (s : Store) (e : Event) (fit : inForm limits01 e ≡ true) (differ : ke
 
   located : All (Located t) ps
   located =
-      brought-located (λ (w : List ℕ). w) identity t g o is [] (omega (arith, length-append (s .text) (payload is))) (drop-append-seam (s .text) (payload is) ∙ sym (append-nil (payload is)))
+      brought-located t g o is [] (omega (arith, length-append (s .text) (payload is))) (drop-append-seam (s .text) (payload is) ∙ sym (append-nil (payload is)))
 
   -- What is found depends on the names' bytes alone, and is found in the text before the event.
   brings : (qs : List Piece) → spelled ps ≡ spelled qs → Brings s e (counted (s .text) cells qs)

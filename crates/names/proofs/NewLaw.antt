@@ -12,13 +12,13 @@ use Rattle.definition.specs.Text.{same, Piece, pieces, wordsBy, isSeparator, st
 use Rattle.definition.specs.Rows.{Cell, textFrom, textAt}
 use Rattle.definition.specs.Look.{findName, pieceCell, enter, resolve, spanOf, oneIf}
 use Rattle.definition.proofs.Base.{All, same-refl, same-eq}
-use Rattle.definition.proofs.Words.{Located}
-use Rattle.definition.proofs.Names.{textFrom-append}
+use Rattle.definition.proofs.Places.{textFrom-append, Located}
+use Rattle.definition.proofs.Finds.{find-hit, find-miss}
 use Rattle.text.proofs.Laws.{same-sym}
 use Rattle.words.specs.Next.{moved}
 use Rattle.words.proofs.Laws.{by, pieces-moved}
 use Rattle.names.specs.Names.{Inside, occurs, isKnown, newIf, newIn}
-use Rattle.names.proofs.Laws.{find-hit, find-miss, occurs-here, occurs-later}
+use Rattle.names.proofs.Laws.{occurs-here, occurs-later}
 
 -- ---- one name more is known
 

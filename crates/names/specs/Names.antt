@@ -10,7 +10,7 @@ use Rattle.definition.specs.Elements.{tag, key, namesState}
 use Rattle.definition.specs.Event.{kind}
 use Rattle.definition.specs.Rows.{Table, state, num, Cell, cellAt, textAt}
 use Rattle.definition.specs.Look.{Load, hasLoad, findName}
-use Rattle.definition.proofs.Names.{Fits}
+use Rattle.definition.proofs.Places.{Fits}
 use Rattle.plain.specs.Plain.{Parsed}
 use Rattle.plain.specs.Keyed.{valueIn}
 use Rattle.names.specs.declared.Names.{Names}

@@ -11,7 +11,7 @@ use Rattle.definition.specs.Text.{str, same}
 use Rattle.definition.specs.Elements.{Role, name, names, masked, plain, roleOf}
 use Rattle.definition.specs.Event.{lineOf, after, tailFrom, isNil, legible}
 use Rattle.definition.specs.Reader.{Call, event, reading}
-use Rattle.definition.specs.Renaming.{renameWords, Moved, ValueRel, LinesRel, CallRel, CallsRel, allLines, keyWritten, elementIn, keyBefore, isFree}
+use Rattle.renaming.specs.Renaming.{renameWords, Moved, ValueRel, LinesRel, CallRel, CallsRel, allLines, keyWritten, elementIn, keyBefore, isFree}
 use Rattle.definition.proofs.Base.{and-left, and-right, same-eq, true-is-false}
 use Rattle.partners.proofs.Lines.{after-split, line-free}
 

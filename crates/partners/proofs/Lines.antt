@@ -9,7 +9,7 @@ use borrow.Author.Tests.{eqb-true}
 use Rattle.definition.specs.Text.{str}
 use Rattle.definition.specs.Event as E
 use Rattle.definition.specs.Event.{Line, lineOf, headed, after}
-use Rattle.definition.specs.Renaming.{isFree}
+use Rattle.renaming.specs.Renaming.{isFree}
 use Rattle.definition.proofs.Base.{none-is-some, some-inj}
 
 pub after-split : (h l v : List ℕ) → after h l ≡ some v → l ≡ h ++ v

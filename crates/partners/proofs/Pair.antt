@@ -5,11 +5,11 @@ use mathlib.Core.List.{List, [], _∷_, _++_, map}
 use lib.ListN.{replicate}
 use Rattle.definition.specs.declared.Limits.{Limits}
 use Rattle.definition.specs.Text.{str, allAllowed, isAllowed, isWord, noSeparator, isSeparator, startsGenerated}
-use Rattle.definition.specs.Reader.{Call, event, reading, Answer, run, start}
-use Rattle.definition.specs.Renaming.{Renaming, CallsRel, AnswersRel, zeros}
-use Rattle.definition.proofs.Swap.{swap, swap-renaming}
-use Rattle.definition.proofs.Demand3.{demand3}
-use Rattle.definition.proofs.Uses.{numbers-equal}
+use Rattle.definition.specs.Reader.{Call, event, reading, Answer, run, start, zeros}
+use Rattle.renaming.specs.Renaming.{Renaming, CallsRel, AnswersRel}
+use Rattle.renaming.proofs.Swap.{swap, swap-renaming}
+use Rattle.renaming.proofs.Demand3.{demand3}
+use Rattle.renaming.proofs.Uses.{numbers-equal}
 use Rattle.partners.proofs.Checked.{callsFit, calls-fit}
 
 abbrev ρ : List ℕ → List ℕ

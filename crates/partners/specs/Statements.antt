@@ -3,7 +3,7 @@ use Prim.Native.Nat.{ℕ}
 use mathlib.Core.Path.{_≡_}
 use mathlib.Core.List.{List}
 use Rattle.definition.specs.Reader.{Call}
-use Rattle.definition.specs.Renaming.{Renaming, CallsRel}
+use Rattle.renaming.specs.Renaming.{Renaming, CallsRel}
 
 -- To leave every name as it is, is to rename.
 abbrev pub IdentityRenames : Type 0

@@ -11,13 +11,10 @@ use native.Mathlib.Numerals.{add-one}
 use borrow.Author.Tests.{eqb-true}
 use Rattle.definition.specs.Text.{str}
 use Rattle.definition.specs.Event.{after, beginsEvent, flush, cut, eventsOf}
+use Rattle.definition.proofs.Base.{test as by}
 use Rattle.lines.specs.Lines.{hasHead, restLength, eventLength}
 use Rattle.lines.proofs.LineLaws.{head-next, head-other, events-by-length}
 use Rattle.pieces.specs.Pieces.{Parted}
-
-by : {P : Type 0} (b : Bool) → (b ≡ true → P) → (b ≡ false → P) → P
-by true f g = f refl
-by false f g = g refl
 
 -- ---- heads
 

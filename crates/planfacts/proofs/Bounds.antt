@@ -17,9 +17,9 @@ use Rattle.definition.specs.Change.{fieldIn, fieldWords, codeFor, wordsOf}
 use Rattle.definition.specs.States.{ownState}
 use Rattle.definition.specs.Rules.{keepsRules}
 use Rattle.definition.specs.Reader.{rowsIn, positionOf}
-use Rattle.kept.proofs.Base.{le-of, and-left, and-right, false-is-true}
+use Rattle.kept.proofs.Base.{test as by, le-of, and-left, and-right, false-is-true}
 use Rattle.kept.proofs.Codes.{field-code, charge-covers}
-use Rattle.kept.proofs.Resolved.{find-le}
+use Rattle.definition.proofs.Finds.{find-le}
 use Rattle.plan.specs.declared.Plan.{Plan}
 use Rattle.plan.specs.declared.MemberPlan.{MemberPlan}
 use Rattle.plan.specs.Plan.{planned}
@@ -31,10 +31,6 @@ use Rattle.plan.specs.Small.{Small, Counted, wordsOn, Brought}
 use Rattle.planfacts.proofs.Given.{Few, few}
 use Rattle.planfacts.proofs.UseOf.{cells-length, state-le}
 use Rattle.planfacts.proofs.Listed.{Words, no-words, events, names-of-send, names-of-invoke, listed, unlisted}
-
-by : {A : Type 0} (b : Bool) → (b ≡ true → A) → (b ≡ false → A) → A
-by true f g = f refl
-by false f g = g refl
 
 -- ---- words
 

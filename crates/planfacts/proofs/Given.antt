@@ -12,7 +12,7 @@ use Rattle.definition.specs.Look.{nameCells}
 use Rattle.definition.specs.Actions.{placeOfNumber}
 use Rattle.definition.specs.Rules.{isInside, following, keepsRules, allWithin, tableLimits, chartLimits, openLimits, countersWithin, hasOwnNumber, isRow, chosen}
 use Rattle.definition.proofs.Base as D
-use Rattle.definition.proofs.Names as Names
+use Rattle.definition.proofs.Places as Places
 use Rattle.kept.proofs.Base.{All, le-of, eq-of, and-left, and-right, false-is-true}
 use Rattle.kept.proofs.Classes.{View, HasRow, OrZero, Fits, Nums, Laid, Texts}
 use Rattle.kept.proofs.RowCells.{CellIn}
@@ -25,16 +25,16 @@ use Rattle.kept.proofs.EnteredOk.{known-of}
 
 -- ---- texts
 
-inside-of : (u a k : ℕ) → isInside u a k ≡ true → Names.Fits u a k
+inside-of : (u a k : ℕ) → isInside u a k ≡ true → Places.Fits u a k
 unfolding isInside
 inside-of u zero k e = tt
 inside-of u (suc i) k e = le-of (i + k) u e
 
-all-inside : (u : ℕ) (cs : List Cell) → All (CellIn u) cs → D.All (λ (c : Cell). Names.Fits u (c .at) (c .len)) cs
+all-inside : (u : ℕ) (cs : List Cell) → All (CellIn u) cs → D.All (λ (c : Cell). Places.Fits u (c .at) (c .len)) cs
 all-inside u [] a = tt
 all-inside u (c ∷ cs) a = (inside-of u (c .at) (c .len) (a .0), all-inside u cs (a .1))
 
-pub names-inside : (L : Limits) (s : Store) → keepsRules L s ≡ true → D.All (λ (c : Cell). Names.Fits (length (s .text)) (c .at) (c .len)) (nameCells (tableOf (s .numbers) 1))
+pub names-inside : (L : Limits) (s : Store) → keepsRules L s ≡ true → D.All (λ (c : Cell). Places.Fits (length (s .text)) (c .at) (c .len)) (nameCells (tableOf (s .numbers) 1))
 names-inside L s r = all-inside (length (s .text)) (nameCells (tableOf (s .numbers) 1)) (known-of L (s .text) (s .numbers) (rules-from L s r .1) .inside)
 
 -- The ids of data stand in the second column.
@@ -45,11 +45,11 @@ id-inside u T i d (v ∷ []) h = absurd (h .texts .1)
 id-inside u T i d (v ∷ a ∷ []) h = absurd (h .texts .1 .1)
 id-inside u T i d (v ∷ a ∷ k ∷ vs) h = h .texts .1 .0
 
-pub ids-inside : (L : Limits) (s : Store) → keepsRules L s ≡ true → D.All (λ (r : Row). Names.Fits (length (s .text)) (cellAt r 1 .at) (cellAt r 1 .len)) (tableOf (s .numbers) 6)
+pub ids-inside : (L : Limits) (s : Store) → keepsRules L s ≡ true → D.All (λ (r : Row). Places.Fits (length (s .text)) (cellAt r 1 .at) (cellAt r 1 .len)) (tableOf (s .numbers) 6)
 ids-inside L s r = go (tableOf (s .numbers) 6) (rules-from L s r .1 .sound .rows 6)
   where
     go : (rs : Table) → All (RowOk (at (length (s .text)) (s .numbers .tables) (s .numbers .ids) (s .numbers .docs)) 6) rs
-        → D.All (λ (r : Row). Names.Fits (length (s .text)) (cellAt r 1 .at) (cellAt r 1 .len)) rs
+        → D.All (λ (r : Row). Places.Fits (length (s .text)) (cellAt r 1 .at) (cellAt r 1 .len)) rs
     go [] a = tt
     go (x ∷ xs) a =
         (inside-of (length (s .text)) (cellAt x 1 .at) (cellAt x 1 .len) (id-inside (length (s .text)) (s .numbers .tables) (s .numbers .ids) (s .numbers .docs) x (a .0)), go xs (a .1))

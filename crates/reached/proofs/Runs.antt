@@ -11,8 +11,7 @@ use Rattle.definition.specs.Event.{eventsOf}
 use Rattle.definition.specs.Rows.{Table, blank, schema, noTables, empty, Store}
 use Rattle.definition.specs.Rules.{chartLimits, openLimits, tableLimits, allWithin, countersWithin, tablesKeep, namesDistinct, numbersFit, openNamesFit, openRegionsFit, isRowOrZero, keepsRules}
 use Rattle.definition.specs.declared.Position.{Position}
-use Rattle.definition.specs.Reader.{Reply, eventReply, Lent, counts, taken, storeOf, positionOf, lentAfter, allLong, longEnough, allAtMost, inOrder, start, Streamed, streamed, stream, Call, event, reading, Answer, refused, answerOf, answerTo, exists, rowRead, call, run, noRow}
-use Rattle.definition.specs.Renaming.{zeros, zeroTables}
+use Rattle.definition.specs.Reader.{Reply, eventReply, Lent, counts, taken, storeOf, positionOf, lentAfter, allLong, longEnough, allAtMost, inOrder, start, Streamed, streamed, stream, Call, event, reading, Answer, refused, answerOf, answerTo, exists, rowRead, call, run, noRow, zeroTables, zeros}
 use Rattle.reached.specs.Statements.{NoneIsTwo}
 use Rattle.reached.proofs.Tables.{and-left, both}
 use Rattle.reached.proofs.Reached.{Reached}

@@ -1,25 +1,21 @@
 -- One event: the questions 1 and 2 before it is fed, and whether its bytes are one event.
-use Prim.Native.Nat.{ℕ, zero, suc, _≤_, _<_}
+use Prim.Native.Nat.{ℕ, zero, suc, _<_}
 use mathlib.Core.Path.{_≡_, refl, sym, ap, _∙_}
-use mathlib.Core.Bool.{Bool, true, false}
-use mathlib.Core.List.{List, [], _∷_}
+use mathlib.Core.List.{List}
 use native.Mathlib.Omega.{arith}
 use lib.ListN.{length}
-use lib.Dec.{ltb}
-use borrow.Author.Tests.{ltb-true, ltb-false, lt-ltb, le-ltb}
 use Rattle.definition.specs.declared.Position.{Position}
 use Rattle.definition.specs.Limits.{limits01}
 use Rattle.definition.specs.Reader.{Lent, call, event}
 use Rattle.lines.specs.Lines.{eventLength}
-use Rattle.walk.proofs.StreamLaws.{event-within}
-use Rattle.event.specs.Description.{Described}
-use Rattle.event.specs.Described.{blank, described}
-use Rattle.event.proofs.DescribeLaws.{out-of-one}
+use Rattle.event.specs.Described.{described}
+use Rattle.event.specs.One.{oneEvent}
+use Rattle.event.proofs.OneLaws.{is-one, out-of-form}
 use Rattle.questions.specs.Lent.{firstTwo}
 use Rattle.conclude.specs.Fed.{given}
 use Rattle.feed.proofs.Laws.{out-of}
 use Rattle.streams.proofs.Laws.{call-refused, call-answered}
-use Rattle.reader.specs.First.{firstOf, oneEvent}
+use Rattle.reader.specs.First.{firstOf}
 
 -- ---- the first no
 
@@ -38,40 +34,7 @@ unfolding firstOf
 both-zero zero b e = (refl, e)
 both-zero (suc a) b e = absurd (omega (arith, e))
 
--- ---- one event
-
-pub none-there : (l : List ℕ) → length l ≡ 0 → 3 ≡ oneEvent l
-unfolding oneEvent
-none-there [] e = refl
-none-there (b ∷ bs) e = absurd (omega (arith, e))
-
-pub two-there : (l : List ℕ) → eventLength l < length l → 3 ≡ oneEvent l
-unfolding oneEvent
-two-there [] h = refl
-two-there (b ∷ bs) h = rw (lt-ltb (eventLength (b ∷ bs)) (length (b ∷ bs)) h, oneEvent)
-
-pub one-there : (l : List ℕ) → (length l ≡ 0 → ⊥) → length l ≤ eventLength l → 0 ≡ oneEvent l
-unfolding oneEvent
-one-there [] n h = absurd (n refl)
-one-there (b ∷ bs) n h = rw (le-ltb (eventLength (b ∷ bs)) (length (b ∷ bs)) h, oneEvent)
-
-is-one : (l : List ℕ) → oneEvent l ≡ 0 → (0 < length l) × (eventLength l ≡ length l)
-unfolding oneEvent
-is-one [] e = absurd (omega (arith, e))
-is-one (b ∷ bs) e = go (ltb (eventLength (b ∷ bs)) (length (b ∷ bs))) refl e
-  where
-    go : (q : Bool) → ltb (eventLength (b ∷ bs)) (length (b ∷ bs)) ≡ q → _≡_ {A = ℕ} (elim q [ true ↦ 3 | false ↦ 0 ]) 0 → (0 < length (b ∷ bs)) × (eventLength (b ∷ bs) ≡ length (b ∷ bs))
-    go true f h = absurd (omega (arith, h))
-    go false f h = (omega arith, omega (arith, ltb-false (eventLength (b ∷ bs)) (length (b ∷ bs)) f, event-within (b ∷ bs)))
-
-out-of-form : (l : List ℕ) → (oneEvent l ≡ 0 → ⊥) → oneEvent l ≡ described l .number
-unfolding oneEvent described blank
-out-of-form [] n = refl
-out-of-form (b ∷ bs) n = go (ltb (eventLength (b ∷ bs)) (length (b ∷ bs))) refl n
-  where
-    go : (q : Bool) → ltb (eventLength (b ∷ bs)) (length (b ∷ bs)) ≡ q → (_≡_ {A = ℕ} (elim q [ true ↦ 3 | false ↦ 0 ]) 0 → ⊥) → _≡_ {A = ℕ} (elim q [ true ↦ 3 | false ↦ 0 ]) (described (b ∷ bs) .number)
-    go true f m = ap (λ (d : Described). d .number) (out-of-one (b ∷ bs) (ltb-true (eventLength (b ∷ bs)) (length (b ∷ bs)) f))
-    go false f m = absurd (m refl)
+-- ---- one event, after the questions 1 and 2
 
 module _ (x : Lent) (p : Position) (raw : List ℕ) (a : ℕ) (ea : a ≡ firstTwo x p) (b : ℕ) (eb : b ≡ oneEvent raw) (k : ℕ) (ek : k ≡ firstOf a b) where
   pub first-no : (k ≡ 0 → ⊥) → given k p x ≡ call limits01 x p (event raw)

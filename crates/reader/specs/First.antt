@@ -1,18 +1,6 @@
--- The first no, and bytes that are one event.
-use Prim.Native.Nat.{ℕ, zero, suc}
-use mathlib.Core.Bool.{true, false}
-use mathlib.Core.List.{List, [], _∷_}
-use lib.ListN.{length}
-use lib.Dec.{ltb}
-use Rattle.lines.specs.Lines.{eventLength}
-
 -- The first no of two questions.
+use Prim.Native.Nat.{ℕ, zero, suc}
+
 unfoldable pub firstOf : ℕ → ℕ → ℕ
 firstOf zero b = b
 firstOf (suc a) b = suc a
-
--- 3 where there is no event, or a second one begins.
-unfoldable pub oneEvent : List ℕ → ℕ
-unfolding eventLength
-oneEvent [] = 3
-oneEvent (b ∷ bs) = elim (ltb (eventLength (b ∷ bs)) (length (b ∷ bs))) [ true ↦ 3 | false ↦ 0 ]

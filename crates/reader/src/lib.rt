@@ -3,7 +3,7 @@
 use conclude::Answer;
 use conclude::refuse;
 use definition::Position;
-use lines::next_event;
+use event::one_event;
 use questions::asked;
 use reading::read_row_bytes;
 use streams::Streamed;
@@ -16,7 +16,7 @@ ghost use Rattle.questions.specs.Lent.{tables, lent};
 ghost use Rattle.reading.specs.Bytes.{outOf, rowOut};
 ghost use Rattle.conclude.specs.Fed.{given};
 ghost use Rattle.streams.specs.Stream.{ended};
-ghost use Rattle.reader.specs.First.{firstOf, oneEvent};
+ghost use Rattle.reader.specs.First.{firstOf};
 
 // The first no of two numbers.
 fn first_of(one: u32, other: u32) -> u32
@@ -26,19 +26,6 @@ fn first_of(one: u32, other: u32) -> u32
         return one;
     }
     other
-}
-
-// 3 for bytes that hold no event or more than one: they are out of form.
-fn one_event(raw: &[u8]) -> u32
-    ensures { λ r. ⌜ r ≡ oneEvent (now (raw .entry)) ⌝ }
-{
-    if raw.len() == 0 {
-        return 3;
-    }
-    if next_event(raw, 0) < raw.len() {
-        return 3;
-    }
-    0
 }
 
 fn answer_of(s: Streamed) -> Answer

@@ -11,6 +11,7 @@ use native.Mathlib.Omega.{arith}
 use Rattle.definition.specs.Elements.{among}
 use Rattle.definition.specs.Rows.{Row, Table, num, rowOf, sameList, listed, valuesOf}
 use Rattle.definition.specs.Actions.{lastWith, placeOfNumber}
+pub use Rattle.definition.proofs.Base.{test as by}
 use Rattle.plan.specs.Ids.{regionId}
 use Rattle.plan.specs.Seen.{closedAt, firstChildOr}
 use Rattle.see.specs.Scans.{walkOver, isChildIn}
@@ -20,10 +21,6 @@ use Rattle.see.specs.Scans.{walkOver, isChildIn}
 last-cons : (c v i a : ℕ) (x : Row) (xs : Table) → (eqb (num x c) v ≡ true → lastWith c v i a (x ∷ xs) ≡ lastWith c v (suc i) (suc i) xs) × (eqb (num x c) v ≡ false → lastWith c v i a (x ∷ xs) ≡ lastWith c v (suc i) a xs)
 unfolding lastWith
 last-cons c v i a x xs = ((λ e. rw (e, lastWith)), (λ e. rw (e, lastWith)))
-
-pub by : {A : Type 0} (b : Bool) → (b ≡ true → A) → (b ≡ false → A) → A
-by true f g = f refl
-by false f g = g refl
 
 last-hit : (c v i a : ℕ) (xs : Table) (r : Row) → eqb (num r c) v ≡ true → lastWith c v i a (xs ++ r ∷ []) ≡ suc (i + length xs)
 unfolding lastWith

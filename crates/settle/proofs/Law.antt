@@ -1,5 +1,5 @@
 -- What is known on the way: the look, what is seen and the decision are the definition's, and so is the number.
-use Prim.Native.Nat.{ℕ, zero, suc, _+_, _≤_, _<_, _^_}
+use Prim.Native.Nat.{ℕ, zero, suc, _≤_, _<_}
 use mathlib.Core.Path.{_≡_, refl, sym, ap, ap₂, _∙_, subst}
 use mathlib.Core.Bool.{Bool, true, false}
 use mathlib.Core.List.{List, [], _∷_}
@@ -9,20 +9,19 @@ use lib.ListN.{length, drop, take, length-drop}
 use lib.Seq.{length-take-le}
 use Rattle.definition.specs.declared.Position.{Position}
 use Rattle.definition.specs.Limits.{limits01}
-use Rattle.definition.specs.Rows.{Row, Table, Cell, cellAt, Numbers, Store, tableOf}
+use Rattle.definition.specs.Rows.{Row, Table, cellAt, Numbers, Store, tableOf}
 use Rattle.definition.specs.Event.{Event, inForm, keysDiffer}
 use Rattle.definition.specs.Look.{Look, look, textAfter, nameCells}
 use Rattle.definition.specs.Rules.{namesLead}
 use Rattle.definition.specs.Change.{entered}
-use Rattle.definition.specs.States.{ownState}
 use Rattle.definition.specs.Reader.{Lent, storeOf, taken, counts, positionOf, rowsIn, Reply, replyTo, settled, Verdict, accept, reject, decided, questions, firstNo}
 use Rattle.definition.proofs.Base.{All}
 use Rattle.kept.proofs.Base.{false-is-true}
 use Rattle.kept.proofs.Facts.{rules-from}
-use Rattle.definition.proofs.Names.{Fits}
+use Rattle.definition.proofs.Places.{Fits}
 use Rattle.names.specs.Names.{Inside}
-use Rattle.plain.specs.Plain.{Parsed, parsedOf}
-use Rattle.heard.specs.Found.{ids}
+use Rattle.plain.specs.Plain.{Parsed}
+use Rattle.found.specs.Found.{ids}
 use Rattle.look.specs.declared.Looked.{Looked}
 use Rattle.look.specs.Looked.{lookedIn, lookedOf, Tells}
 use Rattle.look.proofs.LookLaw.{looks-right, looked-at}
@@ -30,25 +29,22 @@ use Rattle.plan.specs.declared.Heard.{Heard}
 use Rattle.plan.specs.declared.Seen.{Seen}
 use Rattle.plan.specs.declared.Plan.{Plan}
 use Rattle.plan.specs.Heard.{heard}
-use Rattle.plan.specs.Seen.{seen}
 use Rattle.plan.specs.Small.{Small, Counted, Brought}
-use Rattle.plan.specs.Plan.{Planned, planned, refused}
+use Rattle.plan.specs.Plan.{Planned, planned}
 use Rattle.plan.specs.Plans.{planBy, planOf}
 use Rattle.plan.specs.After.{applied, moveOf}
 use Rattle.plan.specs.Decided.{staysWithin, limitedP, decidedP}
 use Rattle.planfacts.proofs.FactsOf.{decided-by-plan, chart-there}
 use Rattle.planfacts.proofs.Given.{names-inside, ids-inside, Few, few}
 use Rattle.planfacts.proofs.Bounds.{look-charge, small, position-small, brought-small}
-use Rattle.payload.specs.Payload.{madeIn, chargeIn}
 use Rattle.see.specs.View.{seenBy, Short}
 use Rattle.see.proofs.All.{seenIn, plan-of-seen, small-seen}
 use Rattle.decision.specs.declared.Decision.{Decision}
 use Rattle.decision.specs.Told.{told, toldBy}
 use Rattle.decide.specs.Within.{within}
 use Rattle.decide.proofs.Counted.{counted}
-use Rattle.whole.specs.Accepted.{Accepted, Ready, afterwards}
+use Rattle.whole.specs.Accepted.{Ready, afterwards}
 use Rattle.whole.proofs.Sizes.{Sized, sized}
-use Rattle.settle.specs.declared.Settled.{Settled}
 use Rattle.settle.specs.Settled.{InForm, firstOf, replied, Settles}
 
 ids-all : (t : List ℕ) (rs : Table) → All (λ (r : Row). Fits (length t) (cellAt r 1 .at) (cellAt r 1 .len)) rs → All (Inside t) (ids rs)

@@ -1,5 +1,5 @@
 -- Distinct names stay distinct when one is entered.
-use Prim.Native.Nat.{ℕ, suc, _+_, _≤_, _<_}
+use Prim.Native.Nat.{ℕ, suc, _+_, _≤_}
 use mathlib.Core.Path.{_≡_, refl, sym, ap, _∙_, subst}
 use mathlib.Core.Bool.{Bool, true, false, true≢false}
 use mathlib.Core.List.{List, [], _∷_, _++_}
@@ -7,32 +7,14 @@ use native.Mathlib.Omega.{arith}
 use lib.Dec.{eqb, ltb}
 use lib.ListN.{length}
 use borrow.Author.Tests.{eq-eqb, eqb-true, ltb-false}
-use Rattle.definition.specs.Text.{same, bytesAt, Piece}
+use Rattle.definition.specs.Text.{bytesAt, Piece}
 use Rattle.definition.specs.Rows.{Table, Cell, textAt, textFrom}
 use Rattle.definition.specs.Look.{spanOf, findName, nameCells, pieceCell, enter}
 use Rattle.definition.specs.Rules.{namesLead}
-use Rattle.definition.proofs.Base.{same-refl}
+use Rattle.definition.proofs.Finds.{find-more, find-new}
 use Rattle.words.proofs.Laws.{by}
-use Rattle.names.proofs.Laws.{find-hit, find-miss}
 use Rattle.targets.specs.Enter.{enterRow}
 use Rattle.targets.proofs.Laws.{cells-enter}
-
--- ---- one name more
-
--- A name that was found is found in the same place.
-find-more : (t : List ℕ) (cs ds : List Cell) (w : List ℕ) → findName t cs w < length cs → findName t (cs ++ ds) w ≡ findName t cs w
-find-more t [] ds w h = absurd (omega arith)
-find-more t (c ∷ cs) ds w h =
-    by (same (textAt t c) w) (λ e. find-hit t c (cs ++ ds) w e ∙ sym (find-hit t c cs w e)) (λ e.
-    let k : findName t cs w < length cs = omega (arith, h, find-miss t c cs w e) in
-    find-miss t c (cs ++ ds) w e ∙ ap suc (find-more t cs ds w k) ∙ sym (find-miss t c cs w e))
-
-find-new : (t : List ℕ) (cs : List Cell) (d : Cell) → length cs ≤ findName t cs (textAt t d) → findName t (cs ++ d ∷ []) (textAt t d) ≡ length cs
-find-new t [] d h = find-hit t d [] (textAt t d) (same-refl (textAt t d))
-find-new t (c ∷ cs) d h =
-    by (same (textAt t c) (textAt t d)) (λ e. absurd (omega (arith, h, find-hit t c cs (textAt t d) e))) (λ e.
-    let k : length cs ≤ findName t cs (textAt t d) = omega (arith, h, find-miss t c cs (textAt t d) e) in
-    find-miss t c (cs ++ d ∷ []) (textAt t d) e ∙ ap suc (find-new t cs d k))
 
 -- ---- names that lead to their places
 
@@ -69,7 +51,7 @@ module _ (t : List ℕ) (cs : List Cell) (k : ℕ) (d : Cell) (e : k ≡ findNam
   unfolding enter
   lead-entered =
       by (ltb k (length cs)) (λ f. rw (f, enter) h) (λ f.
-      let n : findName t (cs ++ d ∷ []) (textAt t d) ≡ 0 + length cs = find-new t cs d (omega (arith, e, ltb-false k (length cs) f)) ∙ omega arith in
+      let n : findName t (cs ++ d ∷ []) (textAt t d) ≡ 0 + length cs = find-new t cs d (textAt t d) (omega (arith, e, ltb-false k (length cs) f)) refl ∙ omega arith in
       let m : namesLead t (cs ++ d ∷ []) 0 (cs ++ d ∷ []) ≡ true = lead-last t (cs ++ d ∷ []) 0 cs d (lead-more t cs (d ∷ []) 0 cs (omega arith) h) n in
       rw (f, enter) m)
 

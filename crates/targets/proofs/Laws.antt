@@ -18,7 +18,7 @@ use Rattle.words.specs.declared.Word.{Word}
 use Rattle.words.specs.Next.{nextWord, moved}
 use Rattle.words.proofs.Laws.{by, pieces-moved}
 use Rattle.names.specs.Names.{wordsFrom}
-use Rattle.names.proofs.Laws.{find-le, cells-length, words-next, words-none, words-end, word-lies}
+use Rattle.names.proofs.Laws.{cells-length, words-next, words-none, words-end, word-lies}
 use Rattle.targets.specs.Enter.{placedRow, countAfter, enterRow, enterAll, memberRow}
 
 -- ---- rows

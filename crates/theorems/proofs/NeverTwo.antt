@@ -7,8 +7,7 @@ use lib.Dec.{leb}
 use Rattle.definition.specs.declared.Limits.{Limits}
 use Rattle.definition.specs.Rows.{Store, empty}
 use Rattle.definition.specs.Rules.{keepsRules}
-use Rattle.definition.specs.Reader.{eventReply, start}
-use Rattle.definition.specs.Renaming.{zeros}
+use Rattle.definition.specs.Reader.{eventReply, start, zeros}
 use Rattle.reached.specs.Fed.{fed}
 use Rattle.reached.proofs.Runs.{run-none-two, stream-not-two, empty-keeps, zeros-sound}
 use Rattle.kept.proofs.RulesKept.{rules-kept, all-kept}

@@ -7,8 +7,7 @@ use lib.Dec.{leb}
 use Rattle.definition.specs.declared.Limits.{Limits}
 use Rattle.definition.specs.Rows.{empty}
 use Rattle.definition.specs.Rules.{keepsRules}
-use Rattle.definition.specs.Reader.{storeOf, longEnough, Call, Answer, run, start, stream}
-use Rattle.definition.specs.Renaming.{zeros}
+use Rattle.definition.specs.Reader.{storeOf, longEnough, Call, Answer, run, start, zeros, stream}
 use Rattle.reached.specs.Fed.{fed}
 use Rattle.reached.specs.Statements.{NoneIsTwo}
 use Rattle.runs.specs.Statements.{Every}

@@ -1,17 +1,16 @@
 -- The walk line by line, as the code takes them.
-use Prim.Native.Nat.{ℕ, suc, _+_, _^_, _≤_, _<_}
+use Prim.Native.Nat.{ℕ, _+_, _^_, _≤_, _<_}
 use mathlib.Core.Path.{_≡_, refl, sym, ap, _∙_, subst}
 use mathlib.Core.Bool.{Bool, true, false, _||_}
 use mathlib.Core.List.{List}
 use native.Mathlib.Omega.{arith}
-use lib.Dec.{ltb, leb}
+use lib.Dec.{leb}
 use lib.ListN.{length, drop, set}
-use borrow.Author.Tests.{ltb-true}
-use Rattle.definition.specs.Text.{str, placeIn}
-use Rattle.definition.specs.Elements.{numberIn, keyNames, keyOf}
+use Rattle.definition.specs.Text.{str}
+use Rattle.definition.specs.Elements.{keyNames, keyOf}
 use Rattle.definition.specs.Event as E
 use Rattle.definition.specs.Event.{Line, lineOf}
-use Rattle.definition.proofs.Base.{true-is-false}
+use Rattle.definition.proofs.Base.{true-is-false, number-small}
 use Rattle.lines.specs.Lines.{hasHead, eventLength}
 use Rattle.lines.specs.Blocks.{all, isWithinLine}
 use Rattle.parts.specs.declared.Part.{Part}
@@ -63,14 +62,6 @@ module _ (s : List ℕ) (e : Lined) (t : Takes s 0 onEvent (withKind (e .code)) 
       )
 
 -- ---- a key's number is small
-
-number-small : (ns : List (List ℕ)) (w : List ℕ) → numberIn ns w ≤ length ns
-unfolding numberIn
-number-small ns w = go (ltb (placeIn ns w) (length ns)) refl
-  where
-    go : (p : Bool) → ltb (placeIn ns w) (length ns) ≡ p → numberIn ns w ≤ length ns
-    go true q = let z : numberIn ns w ≡ suc (placeIn ns w) = rw (q, numberIn) in omega (arith, z, ltb-true (placeIn ns w) (length ns) q)
-    go false q = let z : numberIn ns w ≡ 0 = rw (q, numberIn) in omega (arith, z)
 
 code-below : (at : ℕ) (l : Line) → onKey at l begun .code ≤ 28
 unfolding onKey begun broken withKey withText keyOf keyNames

@@ -1,10 +1,10 @@
 -- An accepted event: everything that is written has its place.
 use Prim.Native.Nat.{ℕ, zero, suc, _+_, _-_, _≤_, _<_}
 use mathlib.Core.Path.{_≡_, refl, sym, ap, ap₂, _∙_, subst}
-use mathlib.Core.Bool.{Bool, true, false, _&&_, not}
+use mathlib.Core.Bool.{Bool, true, false, _&&_}
 use mathlib.Core.List.{List, [], _∷_, _++_, map, append-assoc}
 use native.Mathlib.Omega.{arith}
-use lib.Dec.{eqb, leb}
+use lib.Dec.{leb}
 use lib.ListN.{length, getD, take, drop, set, length-append, length-take, length-drop, length-map, length-set}
 use lib.Seq.{length-take-le}
 use Rattle.definition.specs.declared.Position.{Position}
@@ -21,9 +21,9 @@ use Rattle.definition.specs.Event.{kindFits}
 use Rattle.definition.specs.Rows.{Cell}
 use Rattle.definition.specs.Change.{stateRow}
 use Rattle.definition.proofs.Base as D
-use Rattle.definition.proofs.Names as Names
+use Rattle.definition.proofs.Places.{Fits}
 use Rattle.plain.proofs.PlainLaw as Plain
-use Rattle.definition.specs.Reader.{over, overAll, Verdict, accept, reject, decided, longEnough}
+use Rattle.definition.specs.Reader.{over, overAll, accept, decided, longEnough}
 use Rattle.definition.specs.Change.{onTable, openRegionRow, withoutLast}
 use Rattle.payload.specs.Laid.{laid}
 use Rattle.whole.specs.After.{openedBy, positionBy, InRange}
@@ -45,13 +45,13 @@ use Rattle.kept.proofs.Facts.{rules-from}
 use Rattle.kept.proofs.EnteredOk.{known-of}
 use Rattle.kept.proofs.Resolved.{leads-to, known-grow}
 use Rattle.kept.proofs.Base.{and-left, and-right, le-of, false-is-true}
-use Rattle.plain.specs.Plain.{Parsed, parsedOf}
+use Rattle.plain.specs.Plain.{parsedOf}
 use Rattle.plan.specs.declared.Plan.{Plan}
 use Rattle.plan.specs.Plan.{planned}
 use Rattle.plan.specs.Plans.{planOf}
-use Rattle.plan.specs.After.{wordsAfter, targetsAfter, membersAfter}
+use Rattle.plan.specs.After.{membersAfter}
 use Rattle.plan.specs.Decided.{oneUnless, membersAdded, countsAfter, staysWithin}
-use Rattle.plan.proofs.Fifteen.{states-entered, members-count}
+use Rattle.plan.proofs.Fifteen.{states-entered}
 use Rattle.plan.specs.Seen.{seen}
 use Rattle.plan.specs.Heard.{heard}
 use Rattle.plan.specs.Plans.{planBy}
@@ -78,10 +78,9 @@ use Rattle.arena.proofs.Naming.{members-listed}
 use Rattle.arena.proofs.Naming as N
 use Rattle.planfacts.proofs.Listed.{Listed, Unlisted, listed, unlisted}
 use Rattle.planfacts.proofs.Given.{Few, few, names-inside}
-use Rattle.payload.specs.Payload.{madeIn, payloadIn, chargeIn}
+use Rattle.payload.specs.Payload.{madeIn, payloadIn}
 use Rattle.payload.proofs.PayloadLaw.{covered, charge-law, payload-law}
-use Rattle.whole.specs.Accepted.{Accepted}
-use Rattle.whole.proofs.Sizes.{Fit, Sized, sized, most-at}
+use Rattle.whole.proofs.Sizes.{Fit, Sized, most-at}
 
 -- An event e that is accepted in the lent slices, with the plan q.
 module _ (p : Position) (a b c d f h i j k o y r : Table) (tx : List ℕ) (e : Event) (q : Plan) where
@@ -166,7 +165,7 @@ module _ (p : Position) (a b c d f h i j k o y r : Table) (tx : List ℕ) (e : E
       abbrev t : List ℕ
       t = textsOf u (fieldsFrom g u is)
 
-      inside : D.All (λ (z : Cell). Names.Fits (length (s .text)) (z .at) (z .len)) (nameCells (tableOf n 1))
+      inside : D.All (λ (z : Cell). Fits (length (s .text)) (z .at) (z .len)) (nameCells (tableOf n 1))
       inside = names-inside limits01 s (Z .rules)
 
       pub arena-eq : arena p (parsedOf e) tx ≡ T

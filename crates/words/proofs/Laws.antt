@@ -11,12 +11,8 @@ use lib.ListN.{length, getD, take, drop, drop-of-length-le, length-append, lengt
 use lib.Seq.{drop-cons, drop-drop, length-take-le}
 use borrow.Author.Tests.{ltb-true, ltb-false}
 use Rattle.definition.specs.Text.{Piece, emit, pieces, wordsBy, isSpace, isSeparator, strippedPiece, eventWords, stateWords, stateWordsAt}
+pub use Rattle.definition.proofs.Base.{test as by}
 use Rattle.words.specs.Next.{gap, run, wordAt, nextWord, pieceAt, walk, moved}
-
--- the two cases of a test
-pub by : {X : Type 0} (t : Bool) → (t ≡ true → X) → (t ≡ false → X) → X
-by true f g = f refl
-by false f g = g refl
 
 map-append : (f : Piece → Piece) (xs ys : List Piece) → map f (xs ++ ys) ≡ map f xs ++ map f ys
 map-append f [] ys = refl

@@ -9,10 +9,10 @@ use Rattle.look.proofs.look.Statement.{statement}
 use Rattle.look.proofs.look.Tie as tie
 use Rattle.look.proofs.look.Reads as reads
 use Rattle.look.proofs.look.Lts as lts
-use Rattle.heard.proofs.first_no.Reads as first-no-reads
-use Rattle.heard.proofs.found.Reads as found-reads
+use Rattle.asked.proofs.first_no.Reads as first-no-reads
+use Rattle.found.proofs.found.Reads as found-reads
 use Rattle.heard.proofs.heard.Reads as heard-reads
-use Rattle.heard.proofs.is_innermost.Reads as is-innermost-reads
+use Rattle.found.proofs.is_innermost.Reads as is-innermost-reads
 use Rattle.look.proofs.inside.Reads as inside-reads
 use Rattle.look.proofs.root_of.Reads as root-of-reads
 use Rattle.names.proofs.look_names.Reads as look-names-reads

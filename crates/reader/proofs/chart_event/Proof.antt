@@ -11,7 +11,7 @@ use Rattle.conclude.proofs.refuse.Reads as refuse-reads
 use Rattle.questions.proofs.asked.Reads as asked-reads
 use Rattle.reader.proofs.answer_of.Reads as answer-of-reads
 use Rattle.reader.proofs.first_of.Reads as first-of-reads
-use Rattle.reader.proofs.one_event.Reads as one-event-reads
+use Rattle.event.proofs.one_event.Reads as one-event-reads
 use Rattle.streams.proofs.feed_all.Reads as feed-all-reads
 
 asked-requires : tie.Need-asked-requires
