@@ -1,5 +1,6 @@
 //! What is written beside the code, held to what it speaks of: quotations of document 01, the tables of docs, the edits that must fail.
 
+use std::collections::{BTreeMap, BTreeSet};
 use std::fs;
 use std::path::{Path, PathBuf};
 
@@ -97,15 +98,20 @@ pub fn operations(code: &str) -> usize {
     count + code.matches('(').count()
 }
 
+/// A file of the definition, or of demand 3's statement.
+pub fn definition(file: &str) -> PathBuf {
+    let crates = repository().join("crates");
+    let tried = ["definition", "renaming"].map(|name| crates.join(name).join("specs").join(format!("{file}.antt")));
+    tried.iter().find(|path| path.is_file()).unwrap_or(&tried[0]).clone()
+}
+
 /// The file that a citation of docs/SCOPE.md means: `File` is a definition's, `crate` its code, `edges` the recorded streams, anything else a path.
 pub fn cited_file(path: &str) -> Option<PathBuf> {
     let top = repository();
     let short = !path.contains(['/', '.']);
     let tried = match path {
         "edges" => vec![top.join("tests/rufsm/src/edges.rs")],
-        _ if short && path.starts_with(char::is_uppercase) => {
-            vec![top.join(format!("crates/definition/specs/{path}.antt"))]
-        }
+        _ if short && path.starts_with(char::is_uppercase) => vec![definition(path)],
         _ if short => vec![top.join(format!("crates/{path}/src/lib.rt")), top.join(path)],
         _ => vec![top.join(path), top.join("crates").join(path), top.join(format!("{path}.events"))],
     };
@@ -151,4 +157,24 @@ pub fn citations(line: &str) -> Vec<&str> {
 fn is_example(word: &str) -> bool {
     let patterns = ["NAME", "CRATE", "File: name", "crate: name", "edges: name"];
     word.starts_with("..") || patterns.iter().any(|pattern| word.contains(pattern))
+}
+
+/// The lines of crates.txt: a crate and those that it depends on.
+pub fn listed_crates() -> BTreeMap<String, BTreeSet<String>> {
+    let text = read(&repository().join("crates.txt"));
+    let lines = text.lines().filter(|line| !line.starts_with('#')).filter_map(|line| line.split_once(':'));
+    lines.map(|(name, others)| (name.to_string(), others.split_whitespace().map(str::to_string).collect())).collect()
+}
+
+/// The crates among `known` that a crate's files name: `Rattle.NAME` in statements and proofs, `NAME::` in code.
+pub fn named_crates(name: &str, known: &BTreeSet<String>) -> BTreeSet<String> {
+    let folder = repository().join("crates").join(name);
+    let sources = ["src", "specs", "proofs"].iter().flat_map(|part| files(&folder.join(part)));
+    let text: String = sources.map(|path| read(&path)).collect();
+    let is_named = |other: &str| {
+        ["Rattle.NAME.", "Rattle·NAME·", "use NAME::", " NAME::"]
+            .iter()
+            .any(|form| text.contains(&form.replace("NAME", other)))
+    };
+    known.iter().filter(|other| *other != name && is_named(other)).cloned().collect()
 }

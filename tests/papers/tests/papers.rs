@@ -1,6 +1,7 @@
 //! See the library: what is written beside the code is true of it.
 
 use papers::*;
+use std::collections::BTreeSet;
 use std::path::Path;
 
 /// Document 01 on one line; where the papers are not at hand, a line that says so.
@@ -47,14 +48,13 @@ fn every_rule_names_a_definition() {
     let page = read(&repository().join("docs/ARCHITECTURE.md"));
     let table = page.split("### Rule by rule").nth(1).expect("the table");
     let rows: Vec<&str> = table.lines().filter_map(|line| line.strip_prefix("| ")?.split(" | ").nth(1)).collect();
-    let specs = repository().join("crates/definition/specs");
     let mut count = 0;
     for row in rows {
         let mut source = String::new();
         for word in row.split('`').skip(1).step_by(2) {
             let (file, name) = word.split_once(": ").map_or((None, word), |(file, name)| (Some(file), name));
             if let Some(file) = file {
-                source = read(&specs.join(format!("{file}.antt")));
+                source = read(&definition(file));
             }
             if file.is_some() || !source.is_empty() {
                 assert!(names(&source).contains(&name), "{row}: no {name}");
@@ -153,4 +153,19 @@ fn every_sentence_cites_what_is_there() {
     }
     assert!(count > 500, "only {count} citations were found");
     assert!(wrong.is_empty(), "{}", wrong.join("\n"));
+}
+
+/// crates.txt: each crate with those that its files name and those that these depend on, and no other, since `rt` proves a crate after all that it lists.
+#[test]
+fn crates_depend_on_what_they_name() {
+    let crates = listed_crates();
+    let kit = ["io", "libc", "os"].map(str::to_string);
+    let known: BTreeSet<String> = crates.keys().cloned().chain(kit).collect();
+    for (name, listed) in &crates {
+        let mut needed = named_crates(name, &known);
+        for other in needed.clone() {
+            needed.extend(crates.get(&other).into_iter().flatten().cloned());
+        }
+        assert_eq!(*listed, needed, "crates.txt: {name}");
+    }
 }
