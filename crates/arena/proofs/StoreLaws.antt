@@ -2,14 +2,15 @@
 use Prim.Native.Nat.{ℕ, zero, suc, _+_, _-_, _≤_, _<_}
 use mathlib.Core.Path.{_≡_, refl, sym, ap, ap₂, _∙_, subst}
 use mathlib.Core.Bool.{Bool}
-use mathlib.Core.List.{List, [], _∷_, _++_, append-assoc}
+use mathlib.Core.List.{List, _++_, append-assoc}
 use native.Mathlib.Omega.{arith}
 use lib.ListN.{length, take, drop, length-append, length-take}
 use lib.Seq.{take-at, length-take-le}
 use Rattle.definition.specs.declared.Position.{Position}
 use Rattle.definition.specs.Text.{Piece}
 use Rattle.definition.specs.Rows.{Row, Table}
-use Rattle.definition.specs.Look.{Load, payload, textLoads, nameLoads}
+use Rattle.definition.specs.Look.{payload, textLoads, nameLoads}
+use Rattle.definition.proofs.Charges.{payload-append}
 use Rattle.plain.specs.Plain.{Parsed}
 use Rattle.plan.specs.declared.MembersPlan.{MembersPlan}
 use Rattle.wordlists.specs.Words.{setAll}
@@ -22,16 +23,11 @@ use Rattle.wordlists.specs.Words.{wordRowsOf}
 use Rattle.targets.specs.Names.{piecesIn, skipOf, NameRoom, NamesWritten, OwnIn, TargetsIn}
 use Rattle.arena.specs.Storing.{arena, Storable, Stored}
 
-payload-lengths : (is js : List Load) → length (payload (is ++ js)) ≡ length (payload is) + length (payload js)
-unfolding payload
-payload-lengths [] js = omega arith
-payload-lengths (i ∷ is) js = omega (arith, payload-lengths is js, length-append (i .bytes) (payload (is ++ js)), length-append (i .bytes) (payload is))
-
 parts-length : (v : Parsed) (n : ℕ) → length (payloadIn v n) ≡ length (payload (v .values)) + length (payload (textLoads (v .tag) (v .text))) + length (payload (nameLoads (madeIn v) (suc n)))
 unfolding payloadIn allLoads
 parts-length v n =
-    payload-lengths (v .values ++ textLoads (v .tag) (v .text)) (nameLoads (madeIn v) (suc n))
-    ∙ ap (λ (k : ℕ). k + length (payload (nameLoads (madeIn v) (suc n)))) (payload-lengths (v .values) (textLoads (v .tag) (v .text)))
+    payload-append (v .values ++ textLoads (v .tag) (v .text)) (nameLoads (madeIn v) (suc n))
+    ∙ ap (λ (k : ℕ). k + length (payload (nameLoads (madeIn v) (suc n)))) (payload-append (v .values) (textLoads (v .tag) (v .text)))
 
 room-to : (st ms ms′ : Table) (a a′ : List ℕ) (c c′ n n′ k : ℕ) (ps ps′ : List Piece) → ms ≡ ms′ → a ≡ a′ → c ≡ c′ → n ≡ n′ → ps ≡ ps′ → NameRoom st ms a c n k ps → NameRoom st ms′ a′ c′ n′ k ps′
 room-to st ms ms′ a a′ c c′ n n′ k ps ps′ em ea ec en ep R =

@@ -1,7 +1,7 @@
 -- THE LAW OF AN EVENT'S TEXTS: the table is the look's.
 use Prim.Native.Nat.{ℕ, suc, _+_, _<_}
 use mathlib.Core.Path.{_≡_, refl, sym, ap, ap₂, _∙_, subst}
-use mathlib.Core.Bool.{Bool, true, false, _&&_, _||_}
+use mathlib.Core.Bool.{Bool, true, false, _||_}
 use mathlib.Core.Option.{Option, none, some}
 use mathlib.Core.List.{List, [], _∷_, _++_, append-assoc, map}
 use native.Mathlib.Omega.{arith}
@@ -15,7 +15,7 @@ use Rattle.definition.specs.Rows.{Cell, noCell}
 use Rattle.definition.specs.Look.{Load, valueLoads, textLoads, hasLoad, nameLoads, isGenerated, payload, loadsOf, fieldBy, fieldsFrom, wordsByRole, wordSpans, isEvents, isNamelist, shift}
 use Rattle.definition.specs.Change.{fieldIn, fieldCell, trimmedCell}
 use Rattle.words.proofs.Laws.{by}
-use Rattle.definition.proofs.Base.{key-small}
+use Rattle.definition.proofs.Base.{key-small, and-no}
 use Rattle.plain.specs.Plain.{parsedOf}
 use Rattle.plain.specs.Keyed.{valueIn, offsetIn}
 use Rattle.plain.proofs.ValueLaws.{offset-past}
@@ -54,10 +54,6 @@ made-none k a false n = refl
 text-role : (g : ℕ) → roleOf g 29 ≡ plain
 unfolding roleOf isMasked isName isNames among
 text-role g = refl
-
-and-no : (b : Bool) → (b && false) ≡ false
-and-no true = refl
-and-no false = refl
 
 text-spans : (g : ℕ) (v : List ℕ) → wordSpans g 29 v ≡ trim v ∷ []
 unfolding wordSpans isEvents isNamelist

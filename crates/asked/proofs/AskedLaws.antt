@@ -12,7 +12,7 @@ use Rattle.definition.specs.Text.{Span, trim}
 use Rattle.definition.specs.Elements.{leftOutKeys, Required, requirements, requiredIn, Apart, exclusions}
 use Rattle.definition.specs.Look.{Load, hasLoad}
 use Rattle.definition.specs.Reader.{Question, firstNo}
-use Rattle.definition.proofs.Base.{and-left, and-right, true-is-false}
+use Rattle.definition.proofs.Base.{and-left, and-right, true-is-false, and-true, and-no, or-no}
 use Rattle.words.proofs.Laws.{by}
 use Rattle.words.specs.declared.Part.{Part}
 use Rattle.words.specs.Next.{asSpan}
@@ -23,18 +23,10 @@ use Rattle.plain.specs.Plain.{slotBytes, parsedIn, loadsIn, textIf}
 use Rattle.plain.specs.Keyed.{valueIn}
 use Rattle.plain.specs.Keyed.{keyedOf, isMarked, keyedBytes}
 use Rattle.plain.proofs.ValueLaws.{marked-has, keyed-value}
-use Rattle.heard.proofs.CodeLaws.{and-no, flip}
+use Rattle.heard.proofs.CodeLaws.{flip}
 use Rattle.definition.specs.Nesting.{parentAllowed}
 use Rattle.plan.specs.declared.Heard.{Heard}
 use Rattle.asked.specs.Asked.{questionsBy, oneBy, allBy, pairsBy, leftOutBy, completeBy, apartBy, trimmedIn, textApartIn, Asked, askedIn, startBy}
-
-or-no : (b : Bool) → (b || false) ≡ b
-or-no true = refl
-or-no false = refl
-
-and-yes : (b : Bool) → (b && true) ≡ b
-and-yes true = refl
-and-yes false = refl
 
 no-three : (a b c : Bool) → (not (a && false) && not (b && false) && not (c && false)) ≡ true
 no-three a b c = rw (and-no a, and-no b, and-no c)
@@ -66,15 +58,15 @@ module _ (f : ℕ → Bool) (g : ℕ) where
 
   pub all-one : (k : ℕ) → requiredIn requirements g ≡ (k ∷ []) ∷ [] → (r : Bool) → r ≡ f k → r ≡ completeBy f g
   unfolding completeBy allBy oneBy
-  all-one k e r h = h ∙ sym (and-yes (f k || false) ∙ or-no (f k)) ∙ sym (ap (allBy f) e)
+  all-one k e r h = h ∙ sym (and-true (f k || false) ∙ or-no (f k)) ∙ sym (ap (allBy f) e)
 
   pub all-two : requiredIn requirements g ≡ (20 ∷ []) ∷ (21 ∷ []) ∷ [] → (a b : Bool) → a ≡ f 20 → b ≡ f 21 → (a && b) ≡ completeBy f g
   unfolding completeBy allBy oneBy
-  all-two e a b h k = ap₂ _&&_ (h ∙ sym (or-no (f 20))) (k ∙ sym (or-no (f 21)) ∙ sym (and-yes (f 21 || false))) ∙ sym (ap (allBy f) e)
+  all-two e a b h k = ap₂ _&&_ (h ∙ sym (or-no (f 20))) (k ∙ sym (or-no (f 21)) ∙ sym (and-true (f 21 || false))) ∙ sym (ap (allBy f) e)
 
   pub all-either : requiredIn requirements g ≡ (23 ∷ 24 ∷ []) ∷ [] → (a b : Bool) → a ≡ f 23 → b ≡ f 24 → (a || b) ≡ completeBy f g
   unfolding completeBy allBy oneBy
-  all-either e a b h k = ap₂ _||_ h (k ∙ sym (or-no (f 24))) ∙ sym (and-yes (f 23 || (f 24 || false))) ∙ sym (ap (allBy f) e)
+  all-either e a b h k = ap₂ _||_ h (k ∙ sym (or-no (f 24))) ∙ sym (and-true (f 23 || (f 24 || false))) ∙ sym (ap (allBy f) e)
 
   pub all-none : requiredIn requirements g ≡ [] → true ≡ completeBy f g
   unfolding completeBy allBy
@@ -220,7 +212,7 @@ module _ (src : List ℕ) (p : Plain) (ix : Keyed) (e : ix ≡ keyedOf (take (p 
   text-is whole d₀ x v ex ev ed =
       let q : x ≡ hasLoad 19 vs = ex ∙ there 19 (omega arith) in
       let t : Bool = leb 1 (trimmedIn (textIf (p .kind) (part src (p .text .at) (p .text .len)))) in
-      let y : (b : Bool) → b ≡ (b && eqb (p .kind) 2) = λ b. sym (ap (λ (z : Bool). b && z) (eq-eqb (p .kind) 2 whole) ∙ and-yes b) in
+      let y : (b : Bool) → b ≡ (b && eqb (p .kind) 2) = λ b. sym (ap (λ (z : Bool). b && z) (eq-eqb (p .kind) 2 whole) ∙ and-true b) in
       ap (λ (d : Bool). d && not (eqb (p .tag) 15 && x) && not (eqb (p .tag) 23 && leb 1 (length v))) ed
       ∙ ap₂ (λ (b c : Bool). not (eqb (p .tag) 9 && x && t) && not b && not c) (y (eqb (p .tag) 15 && x)) (y (eqb (p .tag) 23 && leb 1 (length v)))
       ∙ ap₂ (λ (b : Bool) (w : List ℕ). not (eqb (p .tag) 9 && b && t) && not (eqb (p .tag) 15 && b && eqb (p .kind) 2) && not (eqb (p .tag) 23 && leb 1 (length w) && eqb (p .kind) 2)) q (keyed-value src 19 (omega arith) (take (p .count) (p .slots)) ix e v ev)

@@ -14,10 +14,7 @@ use Rattle.definition.specs.Elements.{Role}
 use Rattle.definition.specs.Rows.{choices, openRegionColumns, invokeColumns}
 use Rattle.columns.specs.Sees.{columns8, columns24, textsInside, zerosFrom}
 use Rattle.definition.specs.Rules.{isInside, following, chosen, keeps, columnsKeep, rowsKeep}
-
-pub and-true : (b : Bool) → b && true ≡ b
-and-true true = refl
-and-true false = refl
+use Rattle.definition.proofs.Base.{and-true, elim-and}
 
 -- Of what follows a value only the next one is looked at.
 keeps-next : (s : Store) (r : Row) (c : Class) (v : ℕ) (vs : Row) → keeps s r c v vs ≡ keeps s r c v (following vs ∷ [])
@@ -46,10 +43,6 @@ unfoldable pub all : Store → Row → List Class → ℕ → Bool
 unfolding keeps chosen
 all s r [] i = true
 all s r (c ∷ cs) i = keeps s r (chosen r c) (num r i) (num r (suc i) ∷ []) && all s r cs (suc i)
-
-elim-and : (a b : Bool) → elim a [ true ↦ b | false ↦ false ] ≡ a && b
-elim-and true b = refl
-elim-and false b = refl
 
 from : (s : Store) (r : Row) (cs : List Class) (i : ℕ) → length r ≡ i + length cs → columnsKeep s r cs (drop i r) ≡ all s r cs i
 unfolding columnsKeep all

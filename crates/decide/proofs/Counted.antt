@@ -11,6 +11,7 @@ use Rattle.definition.specs.Rows.{table, Store, tableOf}
 use Rattle.definition.specs.Look.{Look, oneIf}
 use Rattle.definition.specs.Rules.{chartLimits}
 use Rattle.definition.specs.Reader.{allAtMost, rowsIn, positionOf}
+use Rattle.definition.proofs.Base.{and-true}
 use Rattle.plan.specs.declared.Plan.{Plan}
 use Rattle.plan.specs.declared.MembersPlan.{MembersPlan}
 use Rattle.plan.specs.Decided.{oneUnless, membersAdded, countsAfter, staysWithin}
@@ -26,10 +27,6 @@ at-most k m ks ms = go (leb k m) where
   go : (b : Bool) → elim b [ true ↦ allAtMost ks ms | false ↦ false ] ≡ b && allAtMost ks ms
   go true = refl
   go false = refl
-
-and-true : (a : Bool) → a && true ≡ a
-and-true true = refl
-and-true false = refl
 
 flat3 : (a b c : Bool) → a && (b && c) ≡ a && b && c
 flat3 true b c = refl

@@ -1,7 +1,7 @@
 -- Small facts that several proofs use.
 use Prim.Native.Nat.{ℕ, zero, suc, _≤_}
 use mathlib.Core.Path.{_≡_, refl, sym, ap, ap₂, _∙_, subst}
-use mathlib.Core.Bool.{Bool, true, false, _&&_, cond}
+use mathlib.Core.Bool.{Bool, true, false, _&&_, _||_, not, cond}
 use mathlib.Core.Option.{Option, none, some}
 use mathlib.Core.List.{List, [], _∷_, _++_}
 use lib.ListN.{length, getD, set}
@@ -20,6 +20,22 @@ pub and-right : (p q : Bool) → (p && q) ≡ true → q ≡ true
 and-right true q e = e
 and-right false q e = let z : false ≡ true = e in cc
 
+pub and-true : (p : Bool) → (p && true) ≡ p
+and-true true = refl
+and-true false = refl
+
+pub and-no : (p : Bool) → (p && false) ≡ false
+and-no true = refl
+and-no false = refl
+
+pub or-no : (p : Bool) → (p || false) ≡ p
+or-no true = refl
+or-no false = refl
+
+pub elim-and : (p q : Bool) → elim p [ true ↦ q | false ↦ false ] ≡ p && q
+elim-and true q = refl
+elim-and false q = refl
+
 pub bool-ext : (p q : Bool) → (p ≡ true → q ≡ true) → (q ≡ true → p ≡ true) → p ≡ q
 bool-ext true true f g = refl
 bool-ext true false f g = sym (f refl)
@@ -28,6 +44,18 @@ bool-ext false false f g = refl
 
 pub true-is-false : {X : Type 0} → true ≡ false → X
 true-is-false e = absurd (subst T e tt)
+
+pub not-of : (p : Bool) → not p ≡ true → p ≡ false
+not-of true e = true-is-false (sym e)
+not-of false e = refl
+
+pub or-right : (p q : Bool) → p ≡ false → (p || q) ≡ true → q ≡ true
+or-right true q f e = true-is-false f
+or-right false q f e = e
+
+pub and-both : (p q : Bool) → p ≡ true → q ≡ true → (p && q) ≡ true
+and-both true q e f = f
+and-both false q e f = e
 
 pub T-of : (c : Bool) → c ≡ true → T c
 T-of true e = tt

@@ -47,7 +47,7 @@ unescaped-le (b ∷ bs) true x e = go (eqb b 110) (eqb b 92) refl refl (λ d y f
         omega (arith, ih false (z .0) (z .1), z .2)
     go false false q s ih = none-is-some x (rw (q, unescapeFrom, s, unescapeFrom) at e)
 
-allowed-same : (o : Option (List ℕ)) (x : List ℕ) → ifAllowed o ≡ some x → o ≡ some x
+pub allowed-same : (o : Option (List ℕ)) (x : List ℕ) → ifAllowed o ≡ some x → o ≡ some x
 unfolding ifAllowed
 allowed-same none x e = none-is-some x e
 allowed-same (some v) x e = go (allAllowed v) refl

@@ -1,10 +1,13 @@
 pub mod SchemaFits
 pub mod Stars
 pub mod Base
-pub mod Finds
 pub mod Roles
 pub mod Places
+pub mod Finds
 pub mod Parts
 pub mod Tables
+pub mod Changes
+pub mod Charges
+pub mod Lending
 pub mod Escapes
 pub mod EventLength

@@ -11,6 +11,7 @@ use Rattle.definition.specs.Look.{Look}
 use Rattle.definition.specs.Change.{alterRow, filledBy}
 use Rattle.definition.specs.Shapes.{shapeAt}
 use Rattle.definition.specs.Reader.{over}
+use Rattle.definition.proofs.Changes.{alter-set}
 use Rattle.plan.specs.declared.ChartPlan.{ChartPlan}
 use Rattle.plan.specs.declared.StatePlan.{StatePlan}
 use Rattle.plan.specs.declared.TransitionPlan.{TransitionPlan}
@@ -26,7 +27,6 @@ use Rattle.fill.proofs.ShapeLaw.{Placed, shapes-law}
 use Rattle.tables.specs.Whole.{setUnless}
 use Rattle.tables.proofs.Clean.{added-over}
 use Rattle.entries.specs.Whole.{shapedIfBy, recordedBy, rootedBy, chartRow, stateRowBy, newTransition, oldTransition, newEntry, oldEntry, newInvoke, oldInvoke, newDatum, oldDatum, newParameter, transitionsIn, entriesIn, invokesIn, datumsIn, parametersIn, statesIn, chartIn}
-use Rattle.entries.proofs.Laws.{alter-set}
 
 -- ---- tables
 

@@ -1,12 +1,13 @@
 -- Steps of the code.
 use Prim.Native.Nat.{ℕ, zero, suc, _+_, _-_, _≤_, _<_}
 use mathlib.Core.Path.{_≡_, refl, sym, ap, _∙_}
-use mathlib.Core.List.{List, [], _∷_}
+use mathlib.Core.List.{List, []}
 use native.Mathlib.Omega.{arith}
 use lib.ListN.{length, getD, set}
 use lib.Seq.{set-out}
 use Rattle.definition.specs.Rows.{Row, Table}
 use Rattle.definition.specs.Change.{alterRow}
+use Rattle.definition.proofs.Changes.{alter-set}
 use Rattle.plan.specs.After.{put}
 use Rattle.fill.specs.Fill.{shapedBy}
 use Rattle.entries.specs.Whole.{shapedIfBy, recordedBy, rootedBy}
@@ -51,12 +52,6 @@ module _ (t : List ℕ) (g : ℕ) where
   unfolding rootedBy
   root-yes zero k r r₁ r₂ n z e f = absurd (n refl)
   root-yes (suc i) k r r₁ r₂ n z e f = let y : k ≡ i = omega arith in e ∙ ap (set r₁ 0) y ∙ ap (λ (x : Row). set x 0 i) f
-
-pub alter-set : (i : ℕ) (f : Row → Row) (u : Table) → alterRow (suc i) f u ≡ set u i (f (getD u i []))
-unfolding alterRow
-alter-set i f [] = refl
-alter-set zero f (r ∷ u) = refl
-alter-set (suc i) f (r ∷ u) = ap (λ (z : Table). r ∷ z) (alter-set i f u)
 
 pub alter-none : (a : ℕ) (f : Row → Row) (u : Table) → a ≡ 0 → u ≡ alterRow a f u
 unfolding alterRow

@@ -1,7 +1,7 @@
 -- Codes and counts of words.
 use Prim.Native.Nat.{ℕ, _+_, _-_, _≤_, _<_}
 use mathlib.Core.Path.{_≡_, refl, sym, ap, ap₂, _∙_, subst}
-use mathlib.Core.Bool.{Bool, true, false, _&&_, _||_}
+use mathlib.Core.Bool.{Bool, true, false, _||_}
 use mathlib.Core.Option.{none}
 use mathlib.Core.List.{List, [], _∷_}
 use native.Mathlib.Omega.{arith}
@@ -12,6 +12,7 @@ use Rattle.definition.specs.Text.{Piece, pieces, emit, isSpace, isSeparator, pl
 use Rattle.definition.specs.Elements.{wordsTaken, codings}
 use Rattle.definition.specs.Actions.{typeOf}
 use Rattle.definition.specs.Look.{Load, hasLoad, oneIf, codeOf, wordSpans, isEvents, isNamelist, spanOf}
+use Rattle.definition.proofs.Base.{and-no}
 use Rattle.words.specs.declared.Word.{Word}
 use Rattle.words.specs.Next.{nextWord, pieceAt}
 use Rattle.words.proofs.Laws.{by, next-order, next-inside, next-moves, next-none, next-some}
@@ -25,10 +26,6 @@ use Rattle.plan.specs.Ids.{stateId}
 use Rattle.heard.specs.Heard.{orElse, codeIn, wordsIn, heardIn, bareOf}
 
 -- ---- codes
-
-pub and-no : (b : Bool) → (b && false) ≡ false
-and-no true = refl
-and-no false = refl
 
 pub flip : (a b : ℕ) → (a ≡ b → ⊥) → eqb b a ≡ false
 flip a b h = ne-eqb b a (λ e. h (sym e))

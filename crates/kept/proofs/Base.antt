@@ -1,17 +1,13 @@
 -- Small facts that the other proofs use.
 use Prim.Native.Nat.{ℕ, _≤_}
 use mathlib.Core.Path.{_≡_, refl, sym, _∙_}
-use mathlib.Core.Bool.{Bool, true, false, _&&_, _||_}
+use mathlib.Core.Bool.{Bool, true, false, _||_}
 use mathlib.Core.List.{List, [], _∷_}
 use lib.Dec.{eqb, leb, le→leb, eqb→eq, eqb-refl}
-pub use Rattle.definition.proofs.Base.{true-is-false, T-of, is-true, and-left, and-right, le-of, test, All, All-append, All-getD, AllAt, at-place, getD-set}
+pub use Rattle.definition.proofs.Base.{true-is-false, T-of, is-true, and-left, and-right, and-both, or-right, le-of, test, All, All-append, All-getD, AllAt, at-place, getD-set}
 
 pub false-is-true : {X : Type 0} → false ≡ true → X
 false-is-true e = true-is-false (sym e)
-
-pub and-both : (p q : Bool) → p ≡ true → q ≡ true → (p && q) ≡ true
-and-both true q e f = f
-and-both false q e f = false-is-true e
 
 pub leb-of : (a b : ℕ) → a ≤ b → leb a b ≡ true
 leb-of a b h = is-true (leb a b) (le→leb a b h)
@@ -35,10 +31,6 @@ neq-of a b e h = true-is-false (sym (eqb-of a b h) ∙ e)
 pub All-map {ℓ} : {A : Type ℓ} (P Q : A → Type 0) → ((x : A) → P x → Q x) → (xs : List A) → All P xs → All Q xs
 All-map P Q f [] a = tt
 All-map P Q f (x ∷ xs) a = (f x (a .0), All-map P Q f xs (a .1))
-
-pub or-right : (p q : Bool) → p ≡ false → (p || q) ≡ true → q ≡ true
-or-right true q f e = true-is-false f
-or-right false q f e = e
 
 pub or-of : (p q : Bool) → (p ≡ false → q ≡ true) → (p || q) ≡ true
 or-of true q f = refl

@@ -3,15 +3,14 @@ use Prim.Native.Nat.{ℕ, zero, suc, _+_, _-_, _≤_}
 use mathlib.Core.Path.{_≡_, refl, sym, ap, _∙_, subst}
 use mathlib.Core.Bool.{Bool, true, false, _||_, not}
 use mathlib.Core.Option.{Option, none, some}
-use mathlib.Core.List.{List, [], _∷_, _++_}
-use lib.ListN.{length, drop, replicate, length-append, length-drop, length-take, length-replicate}
+use mathlib.Core.List.{List, [], _∷_}
+use lib.ListN.{length, replicate, length-append, length-replicate}
 use lib.Dec.{eqb, leb, ltb}
 use native.Mathlib.Omega.{arith}
-use Rattle.definition.specs.Text.{trim, trimmed, bytesAt, escapedQuotes, quoted, placeIn, str, wildcard, eventWords, isTrue}
+use Rattle.definition.specs.Text.{placeIn, str, wildcard, eventWords, isTrue}
 use Rattle.definition.specs.Elements.{tag, key, roleOf, isMasked, isName, isNames, elementNames, numberIn, tagOf, codings, wordsTaken}
-use Rattle.definition.specs.Event.{Attribute, Event, kind}
 use Rattle.definition.specs.Rows.{Table, num, lastOf}
-use Rattle.definition.specs.Look.{Look, Load, valueLoads, textLoads, isGenerated, nameLoads, payload, textCharge, Field, oneIf, codeOf, isEvents, codeByRole, fieldBy, fieldsFrom, loadsOf, valuesLength, eventCharge, keptName, nameRow, isNamed, isInnermost}
+use Rattle.definition.specs.Look.{Look, Load, Field, oneIf, codeOf, isEvents, codeByRole, fieldBy, fieldsFrom, keptName, nameRow, isNamed, isInnermost}
 use Rattle.definition.specs.Change.{fieldIn, present, fieldCode, has, codeFor}
 use Rattle.definition.specs.Reader.{wordTaken}
 use Rattle.kept.proofs.Base.{le-of, leb-of, eq-of, and-left, and-both, or-right, false-is-true, true-is-false, test}
@@ -86,53 +85,6 @@ bind-code l e w h =
     let c : ℕ = codeFor l (key .binding) 0 in
     let k : c ≤ 1 = taken l (key .binding) 1 (ap (λ (g : ℕ). length (wordsTaken codings g (key .binding))) e) w h in
     and-both (leb 0 c) (leb c 1) (leb-of 0 c (omega arith)) (leb-of c 1 k)
-
--- ---- the charge
-
-escaped-le : (v : List ℕ) → length (escapedQuotes v) ≤ length v + length v
-unfolding escapedQuotes
-escaped-le [] = omega arith
-escaped-le (b ∷ bs) = go (eqb b 34) (eqb b 10) refl refl (escaped-le bs)
-  where
-    go : (p q : Bool) → eqb b 34 ≡ p → eqb b 10 ≡ q → length (escapedQuotes bs) ≤ length bs + length bs → length (escapedQuotes (b ∷ bs)) ≤ suc (length bs) + suc (length bs)
-    go true q e f ih = rw (e, escapedQuotes) (omega (arith, ih))
-    go false true e f ih = rw (e, escapedQuotes, f, escapedQuotes) (omega (arith, ih))
-    go false false e f ih = rw (e, escapedQuotes, f, escapedQuotes) (omega (arith, ih))
-
-trimmed-le : (v : List ℕ) → length (trimmed v) ≤ length v
-unfolding trimmed bytesAt
-trimmed-le v = omega (arith, length-take (trim v .len) (drop (trim v .off) v), length-drop (trim v .off) v)
-
-quoted-le : (v : List ℕ) → length (quoted v) ≤ length v + length v + 2
-unfolding quoted
-quoted-le v = omega (arith, length-append (escapedQuotes (trimmed v)) (34 ∷ []), escaped-le (trimmed v), trimmed-le v)
-
-payload-append : (is js : List Load) → length (payload (is ++ js)) ≡ length (payload is) + length (payload js)
-unfolding payload
-payload-append [] js = omega arith
-payload-append (i ∷ is) js = omega (arith, length-append (i .bytes) (payload (is ++ js)), length-append (i .bytes) (payload is), payload-append is js)
-
-values-charge : (ats : List Attribute) → length (payload (valueLoads ats)) ≡ valuesLength ats
-unfolding payload valueLoads valuesLength
-values-charge [] = refl
-values-charge (a ∷ ats) = omega (arith, length-append (a .value) (payload (valueLoads ats)), values-charge ats)
-
-text-charge : (g : ℕ) (o : Option (List ℕ)) → length (payload (textLoads g o)) ≤ textCharge g o
-unfolding payload textLoads textCharge
-text-charge g none = omega arith
-text-charge g (some v) = go (eqb g (tag .assign)) refl
-  where
-    go : (b : Bool) → eqb g (tag .assign) ≡ b → length (payload (textLoads g (some v))) ≤ textCharge g (some v)
-    go true e = rw (e, textLoads, textCharge) (omega (arith, length-append (quoted v) [], quoted-le v))
-    go false e = rw (e, textLoads, textCharge) (omega (arith, length-append v []))
-
-pub charge-covers : (g n : ℕ) (e : Event) → length (payload (loadsOf g n e)) ≤ eventCharge g n e
-unfolding loadsOf eventCharge
-charge-covers g n e =
-    let vs : List Load = valueLoads (e .attributes) in
-    let ts : List Load = textLoads g (e .text) in
-    let gs : List Load = nameLoads (isGenerated (e .kind) g vs) (suc n) in
-    omega (arith, payload-append (vs ++ ts) gs, payload-append vs ts, values-charge (e .attributes), text-charge g (e .text))
 
 -- ---- the open name
 

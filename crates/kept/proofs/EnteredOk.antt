@@ -1,5 +1,5 @@
 -- The state names that an event brings, entered: the rules are kept.
-use Prim.Native.Nat.{ℕ, suc, _≤_}
+use Prim.Native.Nat.{ℕ, _≤_}
 use mathlib.Core.Path.{_≡_, refl, sym, ap, _∙_, subst}
 use mathlib.Core.List.{List, [], _∷_, _++_, map}
 use lib.ListN.{length, getD, set, drop, length-set}
@@ -10,6 +10,7 @@ use Rattle.definition.specs.Rows.{Table, columnsOf, blank, Cell, cellAt, withCe
 use Rattle.definition.specs.Look.{Look, nameCells}
 use Rattle.definition.specs.Change.{onTable, stateRow, entered}
 use Rattle.definition.specs.Rules.{isInside, following, chosen, hasOwnNumber}
+use Rattle.definition.proofs.Finds.{cells-length}
 use Rattle.kept.proofs.Base.{All, All-append, getD-set}
 use Rattle.kept.proofs.Classes.{View, HasRow, Fits, Nums, Texts, Laid}
 use Rattle.kept.proofs.Grow.{ExtAll, ext-refl, ext-append, ext-on, zero-grow, nth-to, Grows}
@@ -20,11 +21,6 @@ use Rattle.kept.proofs.Okay.{Ok, OkOf}
 use Rattle.kept.proofs.Resolved.{Known, leads-from, leads-to}
 
 -- ---- names in the states' rows
-
-pub cells-length : (rs : Table) → length (nameCells rs) ≡ length rs
-unfolding nameCells
-cells-length [] = refl
-cells-length (r ∷ rs) = ap suc (cells-length rs)
 
 cells-append : (rs us : Table) → nameCells (rs ++ us) ≡ nameCells rs ++ nameCells us
 unfolding nameCells

@@ -10,11 +10,12 @@ use Rattle.definition.specs.declared.Limits.{Limits}
 use Rattle.definition.specs.Rows.{Row, Table, Class, num, columnsOf, schema, Numbers, tableOf, Store}
 use Rattle.definition.specs.Actions.{placeOfNumber}
 use Rattle.definition.specs.Rules.{columnsKeep, rowsKeep, tablesKeep, namesDistinct, rises, noneIn, numbersFit, openNamesFit, openRegionsFit, openTagsFit, blocksIn, isRowOrZero, allWithin, tableLimits, countersWithin, keepsRules}
+use Rattle.definition.proofs.Lending.{names-as-many}
 use Rattle.kept.proofs.Base.{and-left, and-right, and-both, false-is-true, le-of, leb-of, eq-of, eqb-of, All, All-map}
 use Rattle.kept.proofs.Classes.{viewOf, Nums, Texts, columns-from, columns-to, or-zero-from, or-zero-to}
 use Rattle.kept.proofs.Grow.{Absent, absent-to, absent-from, ext-refl}
 use Rattle.kept.proofs.Tables.{RowOk, Rises, NumbersOk}
-use Rattle.kept.proofs.Okay.{OkOf, names-even}
+use Rattle.kept.proofs.Okay.{OkOf}
 
 -- ---- rows and tables
 
@@ -190,7 +191,7 @@ ok-from L s e =
           };
       names = and-right a b e₂;
       opens = and-right ((a && b) && c) d e₄;
-      even = names-even L (tableOf n 9) (tableOf n 10) (and-right ((a && b) && c) d e₄);
+      even = names-as-many L (tableOf n 9) (tableOf n 10) (and-right ((a && b) && c) d e₄);
       tags = and-left p q op;
       blocks = le-of (blocksIn 1 (tableOf n 11)) (blocksIn 0 (tableOf n 9)) (and-right p q op);
       current = or-zero-from n 3 (n .current) (and-right ((((a && b) && c) && d) && f) g e);

@@ -3,25 +3,22 @@ use Prim.Native.Nat.{ℕ, suc, _+_, _≤_}
 use mathlib.Core.Path.{_≡_, refl, sym, ap, _∙_, subst}
 use mathlib.Core.Bool.{Bool, true, false, _&&_, not}
 use mathlib.Core.List.{List, [], _∷_, _++_, map, append-assoc}
-use lib.ListN.{length, drop, length-append, length-drop}
+use lib.ListN.{length, drop, length-append}
 use lib.Dec.{eqb}
 use native.Mathlib.Omega.{arith}
-use Rattle.definition.specs.Text.{Span, Piece, pieces, stateWordsAt}
+use Rattle.definition.specs.Text.{Span}
 use Rattle.definition.specs.Elements.{key, Role, name, names, masked, plain, roleOf, namesState}
 use Rattle.definition.specs.Event.{Event, kind}
 use Rattle.definition.specs.Look.{Load, valueLoads, textLoads, hasLoad, isGenerated, nameLoads, payload, wordSpans, shift, wordsByRole, fieldBy, fieldsFrom, ownName, wordNames, namesFrom, namesBrought, loadsOf}
 use Rattle.definition.specs.Rules.{isInside}
-use Rattle.definition.proofs.Places.{Located, located-at, pieces-located, drop-past}
+use Rattle.definition.proofs.Places.{drop-past, past}
 use Rattle.definition.proofs.Parts.{Inside, parts-inside}
 use Rattle.definition.proofs.Roles.{id-name}
-use Rattle.kept.proofs.Base.{leb-of, eq-of, and-both, false-is-true, test, All, All-append}
+use Rattle.kept.proofs.Base.{leb-of, eq-of, and-both, false-is-true, test, All}
 use Rattle.kept.proofs.RowCells.{CellIn}
 use Rattle.kept.proofs.RowTexts.{FieldIn}
 
 -- ---- fields
-
-past : (t : List ℕ) (o : ℕ) (v x : List ℕ) → o ≤ length t → drop o t ≡ v ++ x → o + length v ≤ length t
-past t o v x k h = omega (arith, ap length h, length-drop o t, length-append v x)
 
 shifted : (m o : ℕ) (v : List ℕ) (ss : List Span) → o + length v ≤ m → All (Inside v) ss → All (CellIn m) (map (shift o) ss)
 unfolding shift isInside
@@ -33,11 +30,7 @@ unfolding wordsByRole
 words-in m name g o k v h = tt
 words-in m names g o k v h = tt
 words-in m masked g o k v h = tt
-words-in m plain g o k v h = shifted m o v (wordSpans g k v) h (from-other (wordSpans g k v) (parts-inside g k v))
-  where
-    from-other : (ss : List Span) → Rattle.definition.proofs.Base.All (Inside v) ss → All (Inside v) ss
-    from-other [] a = tt
-    from-other (s ∷ ss) a = (a .0, from-other ss (a .1))
+words-in m plain g o k v h = shifted m o v (wordSpans g k v) h (parts-inside g k v)
 
 pub fields-in : (t : List ℕ) (g o : ℕ) (is : List Load) (x : List ℕ) → o ≤ length t → drop o t ≡ payload is ++ x → All (FieldIn (length t)) (fieldsFrom g o is)
 unfolding fieldsFrom payload fieldBy isInside
@@ -48,40 +41,6 @@ fields-in t g o (i ∷ is) x k h =
       record { cell = leb-of (o + length (i .bytes)) (length t) p; words = words-in (length t) (roleOf g (i .key)) g o (i .key) (i .bytes) p },
       fields-in t g (o + length (i .bytes)) is x p (drop-past t o (i .bytes) (payload is ++ x) h′),
     )
-
--- ---- names
-
-from-all : (t : List ℕ) (ps : List Piece) → Rattle.definition.proofs.Base.All (Located t) ps → All (Located t) ps
-from-all t [] a = tt
-from-all t (p ∷ ps) a = (a .0, from-all t ps (a .1))
-
-own-located : (t : List ℕ) (o : ℕ) (v x : List ℕ) (r : Role) → o ≤ length t → drop o t ≡ v ++ x → All (Located t) (ownName r o v)
-unfolding ownName
-own-located t o v x name k h = (located-at t o v x k h, tt)
-own-located t o v x names k h = tt
-own-located t o v x masked k h = tt
-own-located t o v x plain k h = tt
-
-word-located : (t : List ℕ) (o : ℕ) (v x : List ℕ) (r : Role) → o ≤ length t → drop o t ≡ v ++ x → All (Located t) (wordNames r o v)
-unfolding wordNames stateWordsAt
-word-located t o v x name k h = tt
-word-located t o v x names k h = from-all t (pieces _ o [] v) (pieces-located _ t o [] v x h)
-word-located t o v x masked k h = tt
-word-located t o v x plain k h = tt
-
-from-located : (f : Role → ℕ → List ℕ → List Piece) (t : List ℕ) → ((o : ℕ) (v x : List ℕ) (r : Role) → o ≤ length t → drop o t ≡ v ++ x → All (Located t) (f r o v))
-    → (g o : ℕ) (is : List Load) (x : List ℕ) → o ≤ length t → drop o t ≡ payload is ++ x → All (Located t) (namesFrom f g o is)
-unfolding namesFrom payload
-from-located f t q g o [] x k h = tt
-from-located f t q g o (i ∷ is) x k h =
-    let h′ : drop o t ≡ i .bytes ++ (payload is ++ x) = rw append-assoc at h in
-    All-append (Located t) (f (roleOf g (i .key)) o (i .bytes)) (namesFrom f g (o + length (i .bytes)) is) (q o (i .bytes) (payload is ++ x) (roleOf g (i .key)) k h′)
-    (from-located f t q g (o + length (i .bytes)) is x (past t o (i .bytes) (payload is ++ x) k h′) (drop-past t o (i .bytes) (payload is ++ x) h′))
-
-pub brought : (t : List ℕ) (g o : ℕ) (is : List Load) (x : List ℕ) → o ≤ length t → drop o t ≡ payload is ++ x → All (Located t) (namesBrought g o is)
-unfolding namesBrought
-brought t g o is x k h =
-    All-append (Located t) (namesFrom ownName g o is) (namesFrom wordNames g o is) (from-located ownName t (own-located t) g o is x k h) (from-located wordNames t (word-located t) g o is x k h)
 
 -- ---- an element that names a state brings its own name
 

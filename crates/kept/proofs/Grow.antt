@@ -10,6 +10,7 @@ use Rattle.definition.specs.Rows.{Row, Table, Class, free, own, docId, above, m
 use Rattle.definition.specs.Actions.{placeOfNumber}
 use Rattle.definition.specs.Change.{alterRow}
 use Rattle.definition.specs.Rules.{hasOwnNumber, isRow, isInside, following, chosen}
+use Rattle.definition.proofs.Changes.{alter-length}
 use Rattle.kept.proofs.Base.{false-is-true, and-left, and-right, and-both, le-of, leb-of, eqb-of, neqb-of, neq-of, All, getD-set}
 use Rattle.kept.proofs.Classes.{View, HasRow, OrZero, Fits, Nums, Laid, Texts}
 
@@ -55,13 +56,6 @@ absent-left (r ∷ rs) us v a = (a .0, absent-left rs us v (a .1))
 pub ext-append : (t : ℕ) (rs us : Table) → Ext t rs (rs ++ us)
 ext-append t rs us = record { longer = omega (arith, length-append rs us); numbers = λ h v a. absent-left rs us v a }
 
-pub length-alter : (i : ℕ) (f : Row → Row) (rs : Table) → length (alterRow i f rs) ≡ length rs
-unfolding alterRow
-length-alter zero f rs = refl
-length-alter (suc i) f [] = refl
-length-alter (suc zero) f (r ∷ rs) = refl
-length-alter (suc (suc i)) f (r ∷ rs) = ap suc (length-alter (suc i) f rs)
-
 pub absent-alter : (i : ℕ) (f : Row → Row) (rs : Table) (v : ℕ) → ((r : Row) → num (f r) 0 ≡ num r 0) → Absent (alterRow i f rs) v → Absent rs v
 unfolding alterRow
 absent-alter zero f rs v h a = a
@@ -70,7 +64,7 @@ absent-alter (suc zero) f (r ∷ rs) v h a = (λ e. a .0 (h r ∙ e), a .1)
 absent-alter (suc (suc i)) f (r ∷ rs) v h a = (a .0, absent-alter (suc i) f rs v h (a .1))
 
 pub ext-alter : (t i : ℕ) (f : Row → Row) (rs : Table) → (hasOwnNumber t ≡ true → (r : Row) → num (f r) 0 ≡ num r 0) → Ext t rs (alterRow i f rs)
-ext-alter t i f rs h = record { longer = omega (arith, length-alter i f rs); numbers = λ o v a. absent-alter i f rs v (h o) a }
+ext-alter t i f rs h = record { longer = omega (arith, alter-length i f rs); numbers = λ o v a. absent-alter i f rs v (h o) a }
 
 pub ext-on : (k : ℕ) (T : List Table) (us : Table) → Ext k (getD T k []) us → ExtAll T (set T k us)
 ext-on k T us e = λ t. getD-set (λ i x. Ext i (getD T i []) x) T [] k us (λ i. ext-refl i (getD T i [])) e t

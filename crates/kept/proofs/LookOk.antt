@@ -8,7 +8,6 @@ use lib.Dec.{eqb, leb, eqb·suc-zero}
 use lib.Seq.{take-append-seam, drop-append-seam}
 use native.Mathlib.Omega.{arith}
 use Rattle.definition.specs.declared.Limits.{Limits}
-use Rattle.definition.specs.Text.{Piece}
 use Rattle.definition.specs.Elements.{tag, key, roleOf, namesState, tagOf}
 use Rattle.definition.specs.Event.{Event, kind}
 use Rattle.definition.specs.Rows.{Cell, Numbers, tableOf, Store}
@@ -17,6 +16,9 @@ use Rattle.definition.specs.Change.{entered, openedRow, codeFor}
 use Rattle.definition.specs.States.{ownState}
 use Rattle.definition.specs.Rules.{unknownFits}
 use Rattle.definition.specs.Reader.{wordTaken}
+use Rattle.definition.proofs.Finds.{refs-length}
+use Rattle.definition.proofs.Charges.{charge-covers}
+use Rattle.definition.proofs.Places.{brought-located}
 use Rattle.kept.proofs.Base.{le-of, leb-of, eqb-of, and-both, All, All-map}
 use Rattle.kept.proofs.Classes.{HasRow}
 use Rattle.kept.proofs.RowTexts.{LookIn}
@@ -24,8 +26,8 @@ use Rattle.kept.proofs.Dispatch.{Coded, Heard}
 use Rattle.kept.proofs.Okay.{OkOf, NamedSo}
 use Rattle.kept.proofs.OpenClose.{Named}
 use Rattle.kept.proofs.Resolved.{Known, known-grow, InRange, AllResolved, all-resolved}
-use Rattle.kept.proofs.Fields.{fields-in, brought, id-there, own-brought}
-use Rattle.kept.proofs.Codes.{field-code, wild-code, auto-code, hist-code, bind-code, charge-covers, tag-range, name-width}
+use Rattle.kept.proofs.Fields.{fields-in, id-there, own-brought}
+use Rattle.kept.proofs.Codes.{field-code, wild-code, auto-code, hist-code, bind-code, tag-range, name-width}
 use Rattle.kept.proofs.EnteredOk.{known-of, entered-ok, entered-has, entered-opened, entered-chart}
 
 -- ---- the open name
@@ -49,11 +51,6 @@ named-of L s e h p q =
     }
 
 -- ---- what is resolved
-
-refs-length : (t : List ℕ) (cs : List Cell) (ps : List Piece) → length (resolve t cs ps .refs) ≡ length ps
-unfolding resolve
-refs-length t cs [] = refl
-refs-length t cs (p ∷ ps) = ap suc (refs-length t _ ps)
 
 first-in : (P : ℕ → Type 0) (vs : List ℕ) → All P vs → 1 ≤ length vs → P (getD vs 0 0)
 first-in P [] a h = absurd (omega arith)
@@ -85,7 +82,7 @@ module _ (L : Limits) (s : Store) (e : Event) (K : OkOf L (s .text) (s .numbers)
   cells = nameCells (tableOf n 1)
 
   resolved : AllResolved t cells (resolve t cells (namesBrought g o is))
-  resolved = all-resolved t cells (namesBrought g o is) (known-grow (s .text) (payload is) cells (known-of L (s .text) n K)) (brought t g o is [] grows at-end)
+  resolved = all-resolved t cells (namesBrought g o is) (known-grow (s .text) (payload is) cells (known-of L (s .text) n K)) (brought-located t g o is [] grows at-end)
 
   look-known : Known t (look s e .known)
   look-known = unfold look in resolved .known

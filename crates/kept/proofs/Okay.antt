@@ -11,7 +11,7 @@ use Rattle.definition.specs.Rows.{Row, Table, num, columnsOf, Numbers, tableOf,
 use Rattle.definition.specs.Look.{Look, nameCells}
 use Rattle.definition.specs.Change.{nothing, editedBy, withoutLast}
 use Rattle.definition.specs.Rules.{blocksIn, openTagsFit, openNamesFit, unknownFits, namesLead, chosen}
-use Rattle.kept.proofs.Base.{and-left, and-right, and-both, false-is-true, All, All-map, All-append}
+use Rattle.kept.proofs.Base.{and-left, and-right, and-both, All, All-map, All-append}
 use Rattle.kept.proofs.Classes.{OrZero, Fits, Nums}
 use Rattle.kept.proofs.Tables.{RowOk}
 use Rattle.kept.proofs.Sound.{at, Sound}
@@ -75,14 +75,6 @@ names-cons L x n xs ns = go (not (eqb (num x 0) 0) || unknownFits L x n) refl
 
 pub names-rest : (L : Limits) (x n : Row) (xs ns : Table) → openNamesFit L (x ∷ xs) (n ∷ ns) ≡ true → openNamesFit L xs ns ≡ true
 names-rest L x n xs ns e = and-right (not (eqb (num x 0) 0) || unknownFits L x n) (openNamesFit L xs ns) (sym (names-cons L x n xs ns) ∙ e)
-
--- Open names and open elements are as many.
-pub names-even : (L : Limits) (xs ns : Table) → openNamesFit L xs ns ≡ true → length ns ≡ length xs
-unfolding openNamesFit
-names-even L [] [] e = refl
-names-even L [] (n ∷ ns) e = false-is-true e
-names-even L (x ∷ xs) [] e = false-is-true e
-names-even L (x ∷ xs) (n ∷ ns) e = ap suc (names-even L xs ns (names-rest L x n xs ns e))
 
 abbrev pub NamedSo : Limits → Row → Row → Type 0
 NamedSo L x n = (not (eqb (num x 0) 0) || unknownFits L x n) ≡ true

@@ -1,7 +1,7 @@
 -- param and content; the ends of elements with a region.
-use Prim.Native.Nat.{ℕ, zero, suc, _+_, _-_, _≤_}
+use Prim.Native.Nat.{ℕ, zero, suc, _-_, _≤_}
 use mathlib.Core.Path.{_≡_, refl, sym, ap, subst}
-use mathlib.Core.Bool.{Bool, true, false, _&&_, _||_}
+use mathlib.Core.Bool.{true, false, _&&_, _||_}
 use mathlib.Core.List.{List, [], _∷_}
 use lib.ListN.{length, getD}
 use lib.Dec.{eqb, leb}
@@ -12,8 +12,9 @@ use Rattle.definition.specs.Rows.{Row, Table, Class, free, row, num, columnsOf,
 use Rattle.definition.specs.Shapes.{shapeAt}
 use Rattle.definition.specs.Look.{Look}
 use Rattle.definition.specs.Change.{_≔_, numbers, shape, Change, Outcome, done, nothing, editedBy, unlessZero, putAll, putOne, isNumber, filledBy, adding, altering, shapeOf, addMember, has}
-use Rattle.definition.specs.Actions.{byParent, newParameter, ofLastSend, ofLastInvoke, ofDonedata, startParam, sendContent, contentOfSend, startContent, lastWith, lastInvoke, lastEntry, ending, endTransition, endListed, endFinalize, endBlock, placeOfNumber}
+use Rattle.definition.specs.Actions.{byParent, newParameter, ofLastSend, ofLastInvoke, ofDonedata, startParam, sendContent, contentOfSend, startContent, lastInvoke, lastEntry, ending, endTransition, endListed, endFinalize, endBlock, placeOfNumber}
 use Rattle.definition.specs.Rules.{isBlock, blocksIn, chosen, hasOwnNumber}
+use Rattle.definition.proofs.Changes.{last-le}
 use Rattle.kept.proofs.Classes.{View, Fits, Nums, OrZero}
 use Rattle.kept.proofs.Grow.{row-grow, zero-grow, nth-to}
 use Rattle.kept.proofs.RowChange.{PutsFit, paired}
@@ -25,17 +26,6 @@ use Rattle.kept.proofs.Regions.{Tags}
 use Rattle.kept.proofs.Members.{Out, out, no-out, out-either, out-unless}
 use Rattle.kept.proofs.Next.{next-add, next-alter, next-member, out-closing}
 use Rattle.kept.proofs.StatesOut.{Ready, done-next, done-nothing, state-row}
-
--- The last row with a number in a column is a row or none.
-last-le : (column v i a : ℕ) (rs : Table) → a ≤ i → lastWith column v i a rs ≤ i + length rs
-unfolding lastWith
-last-le column v i a [] h = omega arith
-last-le column v i a (r ∷ rs) h = go (eqb (num r column) v) refl (last-le column v (suc i) (suc i) rs (omega arith)) (last-le column v (suc i) a rs (omega arith))
-  where
-    go : (b : Bool) → eqb (num r column) v ≡ b → lastWith column v (suc i) (suc i) rs ≤ suc i + length rs → lastWith column v (suc i) a rs ≤ suc i + length rs
-        → lastWith column v i a (r ∷ rs) ≤ i + suc (length rs)
-    go true e x y = rw (e, lastWith) (omega (arith, x))
-    go false e x y = rw (e, lastWith) (omega (arith, y))
 
 pub nth-row : (T : List Table) (t v : ℕ) → hasOwnNumber t ≡ false → v ≤ length (getD T t []) → OrZero T t v
 nth-row T t v o h = λ z. nth-to T t v o (pos v z) h

@@ -9,6 +9,7 @@ use native.Mathlib.Omega.{arith}
 use Rattle.definition.specs.Rows.{Row, Table, num}
 use Rattle.definition.specs.Change.{Closed, closedBy}
 use Rattle.definition.specs.Rules.{isBlock, blocksIn, openTagsFit}
+use Rattle.definition.proofs.Base.{and-true}
 use Rattle.kept.proofs.Base.{false-is-true, and-left, and-both, eq-of, All}
 
 -- ---- tags
@@ -31,10 +32,6 @@ tags-cons g r rs = go (fitsOn g r) refl
 and-assoc : (p q r : Bool) → (p && (q && r)) ≡ ((p && q) && r)
 and-assoc true q r = refl
 and-assoc false q r = refl
-
-and-true : (p : Bool) → (p && true) ≡ p
-and-true true = refl
-and-true false = refl
 
 tags-snoc : (g : ℕ) (rs : Table) (r : Row) → openTagsFit g (rs ++ r ∷ []) ≡ (openTagsFit g rs && fitsOn (lastTag g rs) r)
 unfolding lastTag openTagsFit

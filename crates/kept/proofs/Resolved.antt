@@ -8,10 +8,10 @@ use lib.Dec.{eqb, ltb, nltb→le}
 use native.Mathlib.Omega.{arith}
 use Rattle.definition.specs.Text.{same, Piece}
 use Rattle.definition.specs.Rows.{Cell, textFrom, textAt}
-use Rattle.definition.specs.Look.{spanOf, findName, pieceCell, enter, Resolved, resolve}
+use Rattle.definition.specs.Look.{findName, pieceCell, enter, Resolved, resolve}
 use Rattle.definition.specs.Rules.{isInside, namesLead}
 use Rattle.definition.proofs.Places.{bytesAt-append, Located}
-use Rattle.definition.proofs.Finds.{find-hit, find-miss, find-le, find-more, find-new}
+use Rattle.definition.proofs.Finds.{find-hit, find-miss, find-le, find-more, find-new, cell-word}
 use Rattle.kept.proofs.Base.{T-of, le-of, leb-of, eq-of, eqb-of, and-left, and-right, and-both, test, All, All-map, All-append}
 use Rattle.kept.proofs.RowCells.{CellIn}
 use Rattle.kept.proofs.Grow.{inside-grow}
@@ -61,10 +61,6 @@ leads-append t all i (c ∷ cs) d h e = (h .0, leads-append t all (suc i) cs d (
 pub record Known (t : List ℕ) (cs : List Cell) : Type 0 where
   pub inside : All (CellIn (length t)) cs
   pub leads : Leads t cs 0 cs
-
-cell-word : (t : List ℕ) (p : Piece) → Located t p → textAt t (pieceCell p) ≡ p .word
-unfolding textAt textFrom pieceCell spanOf
-cell-word t p h = h .bytes
 
 cell-inside : (t : List ℕ) (p : Piece) → Located t p → CellIn (length t) (pieceCell p)
 unfolding pieceCell isInside

@@ -9,6 +9,7 @@ use lib.Seq.{getD-set-other}
 use Rattle.definition.specs.Rows.{Row, Class, free, own, docId, above, mark, len, code, row, existing, text, by, choices, num}
 use Rattle.definition.specs.Change.{Put, isNumber, putOne, putAll}
 use Rattle.definition.specs.Rules.{following, chosen}
+use Rattle.definition.proofs.Base.{not-of}
 use Rattle.kept.proofs.Base.{false-is-true, and-left, and-right, neq-of}
 use Rattle.kept.proofs.Classes.{View, Fits, Nums, Laid}
 
@@ -32,10 +33,6 @@ unfoldable pub steady : ℕ → List Class → Bool
 unfolding steadyIn
 steady c [] = true
 steady c (x ∷ xs) = steadyIn c x && steady c xs
-
-not-of : (b : Bool) → not b ≡ true → b ≡ false
-not-of true e = false-is-true e
-not-of false e = refl
 
 kept-num : (r : Row) (c d w : ℕ) → not (eqb d c) ≡ true → num (set r c w) d ≡ num r d
 kept-num r c d w e = getD-set-other r c d w 0 (neq-of d c (not-of (eqb d c) e))

@@ -12,7 +12,8 @@ use Rattle.definition.specs.Shapes.{Filling}
 use Rattle.definition.specs.Look.{Look, nameCells}
 use Rattle.definition.specs.Change.{Put, isNumber, putOne, putAll, filledBy, cellOf, alterRow}
 use Rattle.definition.specs.Rules.{following, isInside}
-use Rattle.kept.proofs.Base.{false-is-true, and-left, and-right, neq-of, All, All-map}
+use Rattle.definition.proofs.Base.{not-of}
+use Rattle.kept.proofs.Base.{and-left, and-right, neq-of, All, All-map}
 use Rattle.kept.proofs.Classes.{View, Nums, Laid, Texts}
 use Rattle.kept.proofs.Grow.{Absent, Grows, nums-grow, texts-grow}
 use Rattle.kept.proofs.RowChange.{paired}
@@ -74,10 +75,6 @@ sparesPuts c (p ∷ ps) = not (eqb c (p .column)) && sparesPuts c ps
 unfoldable pub sparesFills : ℕ → List Filling → Bool
 sparesFills c [] = true
 sparesFills c (f ∷ fs) = (not (eqb c (f .column)) && not (eqb c (suc (f .column)))) && sparesFills c fs
-
-pub not-of : (b : Bool) → not b ≡ true → b ≡ false
-not-of true e = false-is-true e
-not-of false e = refl
 
 pub num-set : (r : Row) (d c v : ℕ) → not (eqb c d) ≡ true → num (set r d v) c ≡ num r c
 num-set r d c v e = getD-set-other r d c v 0 (neq-of c d (not-of (eqb c d) e))

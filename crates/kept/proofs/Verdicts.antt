@@ -14,6 +14,7 @@ use Rattle.definition.specs.Look.{Look}
 use Rattle.definition.specs.Change.{Change, Outcome, done, refuse, made, pushed, popped, openedRow, withTables}
 use Rattle.definition.specs.Rules.{isBlock, blocksIn}
 use Rattle.definition.specs.Reader.{startOf, endOf, Verdict, accept, reject, onDone, started, finished, handled}
+use Rattle.definition.proofs.Changes.{last-snoc}
 use Rattle.kept.proofs.Base.{le-of, false-is-true, eq-of, test}
 use Rattle.kept.proofs.RowTexts.{LookIn}
 use Rattle.kept.proofs.Steps.{Good}
@@ -38,11 +39,6 @@ on-out : (L : Limits) (t : List ℕ) (m : ℕ) (z : Numbers) (u : ℕ) (l : Look
 unfolding onDone
 on-out L t m z u l n b (done c) next (out G k h) f = f c G k h
 on-out L t m z u l n b (refuse k) next no-out f = refused
-
-last-append : (d : Row) (xs : Table) (x : Row) → lastOf d (xs ++ x ∷ []) ≡ x
-unfolding lastOf
-last-append d [] x = refl
-last-append d (y ∷ xs) x = last-append y xs x
 
 -- ---- else and elseif stand in an if
 
@@ -82,7 +78,7 @@ module _ (L : Limits) (t : List ℕ) (l : Look) where
       (out-start u l n H b R (else-parent n (l .tag) p) (elseif-parent n (l .tag) p) (l .tag) refl) (λ c G k h.
       let e : tableOf (pushed l c (made l c n)) 9 ≡ tableOf n 9 ++ openedRow l c ∷ [] = push-opened L t n K l c G k in
       f (pushed l c (made l c n)) (push-ok L t n K l c G k N h) (omega (arith, ap length e, length-append (tableOf n 9) (openedRow l c ∷ [])))
-      (ap (λ (rs : Table). num (lastOf [] rs) 0) e ∙ ap (λ (r : Row). num r 0) (last-append [] (tableOf n 9) (openedRow l c)) ∙ opened-tag c) (same-charge c, push-chart L t n K l c G k))
+      (ap (λ (rs : Table). num (lastOf [] rs) 0) e ∙ ap (λ (r : Row). num r 0) (last-snoc [] (tableOf n 9) (openedRow l c)) ∙ opened-tag c) (same-charge c, push-chart L t n K l c G k))
     where
       opened-tag : (c : Change) → num (openedRow l c) 0 ≡ l .tag
       opened-tag c = unfold openedRow in refl

@@ -1,7 +1,7 @@
 -- Numbers that fit, and all of it.
 use Prim.Native.Nat.{ℕ, suc, _-_, _≤_, _<_}
 use mathlib.Core.Path.{_≡_, refl, ap, ap₂, _∙_}
-use mathlib.Core.Bool.{Bool, true, false}
+use mathlib.Core.Bool.{Bool}
 use mathlib.Core.List.{List, [], _∷_}
 use native.Mathlib.Omega.{arith}
 use lib.Dec.{eqb}
@@ -11,18 +11,17 @@ use Rattle.definition.specs.Text.{Piece}
 use Rattle.definition.specs.Rows.{Row, Table, Cell, num, lastOf}
 use Rattle.definition.specs.Look.{findDatum, nameCells, isInnermost}
 use Rattle.definition.specs.Reader.{firstNo}
-use Rattle.definition.proofs.Finds.{find-le}
+use Rattle.definition.proofs.Finds.{find-le, cells-length, datum-le}
 use Rattle.words.proofs.Laws.{by}
 use Rattle.names.specs.declared.Names.{Names}
 use Rattle.names.specs.Names.{firstOf, counted, broughtIn, namesIn}
-use Rattle.names.proofs.Laws.{cells-length}
 use Rattle.plain.specs.declared.Plain.{Plain}
 use Rattle.plain.specs.Plain.{slotBytes, Parsed, parsedIn}
 use Rattle.plain.specs.Keyed.{valueIn}
 use Rattle.plan.specs.declared.Heard.{Heard}
 use Rattle.heard.specs.Heard.{heardIn}
 use Rattle.asked.specs.Asked.{askedIn, questionsBy}
-use Rattle.found.specs.Found.{foundIn, isDatum}
+use Rattle.found.specs.Found.{foundIn}
 use Rattle.payload.specs.Payload.{madeIn, chargeIn}
 use Rattle.look.specs.Looked.{lookedIn}
 
@@ -37,17 +36,6 @@ brought-le t cs n v = first-le t cs (broughtIn n v)
 
 pub own-small : (t : List ℕ) (rows : Table) (n : ℕ) (v : Parsed) → length rows ≤ 256 → (r : Names) → r ≡ namesIn t (nameCells rows) n v → r .own < 4294967296
 own-small t rows n v h r e = omega (arith, h, brought-le t (nameCells rows) n v, ap (λ (x : Names). x .own) e, cells-length rows)
-
-datum-le : (t : List ℕ) (rs : Table) (s : ℕ) (w : List ℕ) → findDatum t rs s w ≤ suc (length rs)
-unfolding findDatum
-datum-le t [] s w = omega arith
-datum-le t (r ∷ rs) s w =
-    let h : findDatum t rs s w ≤ suc (length rs) = datum-le t rs s w in
-    go (isDatum t r s w) refl h
-  where
-    go : (b : Bool) → isDatum t r s w ≡ b → findDatum t rs s w ≤ suc (length rs) → findDatum t (r ∷ rs) s w ≤ suc (suc (length rs))
-    go true q h = unfold isDatum findDatum in let z : findDatum t (r ∷ rs) s w ≡ 1 = rw (q, findDatum) in omega (arith, z)
-    go false q h = unfold isDatum findDatum in let z : findDatum t (r ∷ rs) s w ≡ suc (findDatum t rs s w) = rw (q, findDatum) in omega (arith, z, h)
 
 pub found-small : (t : List ℕ) (rows : Table) (s : ℕ) (v : Parsed) → length rows ≤ 256 → (r : ℕ) → r ≡ foundIn t rows s v → r < 4294967296
 unfolding foundIn

@@ -10,8 +10,8 @@ use Rattle.definition.specs.Rows.{Table, Store, tableOf, Numbers, innermost, cu
 use Rattle.definition.specs.Look.{look, nameCells}
 use Rattle.definition.specs.Reader.{firstNo, positionOf, rowsIn}
 use Rattle.definition.proofs.Base.{All}
+use Rattle.definition.proofs.Finds.{cells-length}
 use Rattle.names.specs.Names.{Inside, namesIn}
-use Rattle.names.proofs.Laws.{cells-length}
 use Rattle.names.proofs.NamesLaw.{names-law}
 use Rattle.event.specs.Described.{described}
 use Rattle.plain.specs.Plain.{Parsed, parsedOf, parsedRaw}

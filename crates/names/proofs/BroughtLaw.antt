@@ -1,7 +1,7 @@
 -- WHERE THE NAMES OF AN EVENT STAND in its payload: its own name where its id or the generated name stands, then the words of one value.
 use Prim.Native.Nat.{ℕ, suc, _+_, _≤_, _<_}
 use mathlib.Core.Path.{_≡_, refl, sym, ap, ap₂, _∙_}
-use mathlib.Core.Bool.{Bool, true, false, _&&_}
+use mathlib.Core.Bool.{Bool, true, false}
 use mathlib.Core.List.{List, [], _∷_, _++_, append-nil}
 use native.Mathlib.Omega.{arith}
 use lib.Dec.{eqb, ltb}
@@ -11,7 +11,7 @@ use Rattle.definition.specs.Text.{same, Piece, placeIn, generatedName, stateWor
 use Rattle.definition.specs.Elements.{key, Role, names, roleOf, isMasked, isName, isNames, namesState, numberIn, keyNames, keyOf, among}
 use Rattle.definition.specs.Event.{Attribute, Event, hasKey, keysDiffer}
 use Rattle.definition.specs.Look.{Load, valueLoads, textLoads, hasLoad, isGenerated, nameLoads, loadsOf, ownName, wordNames, namesFrom, namesBrought}
-use Rattle.definition.proofs.Base.{same-refl, same-eq, true-is-false}
+use Rattle.definition.proofs.Base.{same-refl, same-eq, true-is-false, and-no}
 use Rattle.definition.proofs.Roles.{id-name}
 use Rattle.text.proofs.Laws.{place-here, place-next}
 use Rattle.words.proofs.Laws.{by}
@@ -108,10 +108,6 @@ module _ (i : ℕ) where
       (λ q. omega (arith, times-past k x (valueLoads ats) q, once ats (d .1)))
 
 -- ---- the roles of keys
-
-and-no : (b : Bool) → (b && false) ≡ false
-and-no true = refl
-and-no false = refl
 
 -- An element's own name is its id.
 own-other : (g k o : ℕ) (v : List ℕ) → eqb k 1 ≡ false → ownName (roleOf g k) o v ≡ []

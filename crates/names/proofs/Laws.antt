@@ -12,7 +12,7 @@ use borrow.Author.Tests.{ltb-true, ltb-false}
 use Rattle.definition.specs.Text.{same, bytesAt, Piece, pieces, emit, isSeparator, stateWords, wordsBy}
 use Rattle.definition.specs.Rows.{Cell, textAt, textFrom, cellAt}
 use Rattle.definition.specs.Look.{findName, nameCells}
-use Rattle.definition.proofs.Finds.{find-hit, find-miss}
+use Rattle.definition.proofs.Finds.{find-hit, find-miss, cells-length}
 use Rattle.text.proofs.Laws.{same-empty}
 use Rattle.words.specs.declared.Word.{Word}
 use Rattle.words.specs.Next.{nextWord, pieceAt}
@@ -42,11 +42,6 @@ module _ (t : List ℕ) (at len : ℕ) (w : List ℕ) where
   cell-same off long r h e f g = g ∙ ap (λ (n : ℕ). same (bytesAt t (record { off = off; len = n })) w) f ∙ ap (λ (x : List ℕ). same x w) (cell-bytes off h e)
 
 -- ---- finding a name
-
-pub cells-length : (rs : List (List ℕ)) → length (nameCells rs) ≡ length rs
-unfolding nameCells
-cells-length [] = refl
-cells-length (r ∷ rs) = ap suc (cells-length rs)
 
 -- The rows from i on.
 module _ (rows : List (List ℕ)) (count : ℕ) (fits : count ≤ length rows) (t w : List ℕ) (i : ℕ) where

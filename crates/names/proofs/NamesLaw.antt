@@ -18,6 +18,7 @@ use Rattle.definition.specs.Look.{Load, look, valueLoads, textLoads, nameLoads,
 use Rattle.definition.specs.States.{ownState}
 use Rattle.definition.proofs.Base.{All, true-is-false, and-left, and-right}
 use Rattle.definition.proofs.Places.{Located, brought-located}
+use Rattle.definition.proofs.Finds.{refs-length}
 use Rattle.words.specs.Next.{moved}
 use Rattle.words.proofs.Laws.{by}
 use Rattle.plain.specs.Plain.{Parsed, parsedOf}
@@ -27,7 +28,7 @@ use Rattle.plain.proofs.LoadLaw.{other, own-value}
 use Rattle.names.specs.declared.Names.{Names}
 use Rattle.names.specs.Names.{Inside, occurs, isKnown, newIf, newIn, firstOf, counted, stateNames, broughtIn, namesIn}
 use Rattle.names.proofs.Laws.{occurs-here, occurs-later}
-use Rattle.names.proofs.NewLaw.{known-length, refs-length, find-grow, new-grow, words-at}
+use Rattle.names.proofs.NewLaw.{known-length, find-grow, new-grow, words-at}
 use Rattle.names.proofs.FoundNames.{brought-end, brought-state, brought-transition, brought-other}
 use Rattle.names.proofs.BroughtLaw.{own-named, state-stands, transition-stands, others-bring}
 

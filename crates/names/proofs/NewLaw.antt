@@ -9,11 +9,11 @@ use lib.Dec.{ltb}
 use lib.ListN.{length, length-append}
 use borrow.Author.Tests.{ltb-true, ltb-false, lt-ltb, le-ltb}
 use Rattle.definition.specs.Text.{same, Piece, pieces, wordsBy, isSeparator, stateWords, stateWordsAt}
-use Rattle.definition.specs.Rows.{Cell, textFrom, textAt}
-use Rattle.definition.specs.Look.{findName, pieceCell, enter, resolve, spanOf, oneIf}
-use Rattle.definition.proofs.Base.{All, same-refl, same-eq}
+use Rattle.definition.specs.Rows.{Cell, textAt}
+use Rattle.definition.specs.Look.{findName, pieceCell, enter, resolve, oneIf}
+use Rattle.definition.proofs.Base.{All, same-refl, same-eq, or-no}
 use Rattle.definition.proofs.Places.{textFrom-append, Located}
-use Rattle.definition.proofs.Finds.{find-hit, find-miss}
+use Rattle.definition.proofs.Finds.{find-hit, find-miss, cell-word}
 use Rattle.text.proofs.Laws.{same-sym}
 use Rattle.words.specs.Next.{moved}
 use Rattle.words.proofs.Laws.{by, pieces-moved}
@@ -33,13 +33,9 @@ known-past t c cs w e =
     (λ h. lt-ltb (findName t (c ∷ cs) w) (suc (length cs)) (omega (arith, ltb-true (findName t cs w) (length cs) h, find-miss t c cs w e)) ∙ sym h)
     (λ h. le-ltb (findName t (c ∷ cs) w) (suc (length cs)) (omega (arith, ltb-false (findName t cs w) (length cs) h, find-miss t c cs w e)) ∙ sym h)
 
-or-false : (b : Bool) → (b || false) ≡ b
-or-false true = refl
-or-false false = refl
-
 known-snoc : (t : List ℕ) (cs : List Cell) (c : Cell) (w : List ℕ) → isKnown t (cs ++ c ∷ []) w ≡ (isKnown t cs w || same (textAt t c) w)
 known-snoc t [] c w =
-    by (same (textAt t c) w) (λ e. known-here t c [] w e ∙ sym (ap (λ (b : Bool). isKnown t [] w || b) e ∙ none)) (λ e. known-past t c [] w e ∙ sym (ap (λ (b : Bool). isKnown t [] w || b) e ∙ or-false (isKnown t [] w)))
+    by (same (textAt t c) w) (λ e. known-here t c [] w e ∙ sym (ap (λ (b : Bool). isKnown t [] w || b) e ∙ none)) (λ e. known-past t c [] w e ∙ sym (ap (λ (b : Bool). isKnown t [] w || b) e ∙ or-no (isKnown t [] w)))
   where
     none : (isKnown t [] w || true) ≡ true
     none = by (isKnown t [] w) (λ e. rw e) (λ e. rw e)
@@ -86,15 +82,11 @@ module _ (t : List ℕ) (cs : List Cell) (c : Cell) (w : List ℕ) (new : isKnow
       let q : oneIf (occurs x ps) ≡ oneIf (occurs w ps) = ap (λ (a : List ℕ). oneIf (occurs a ps)) y in
       omega (arith, ih, o, q, one-known t ds x ps u, one-new t cs x ps z))
       (λ e.
-      let z : isKnown t ds x ≡ isKnown t cs x = known-then x ∙ ap (λ (b : Bool). isKnown t cs x || b) (same-sym w x ∙ e) ∙ or-false (isKnown t cs x) in
+      let z : isKnown t ds x ≡ isKnown t cs x = known-then x ∙ ap (λ (b : Bool). isKnown t cs x || b) (same-sym w x ∙ e) ∙ or-no (isKnown t cs x) in
       let o : oneIf (occurs w (p ∷ ps)) ≡ oneIf (occurs w ps) = ap oneIf (occurs-later w p ps e) in
       omega (arith, ih, o, one-alike t cs x ps ds z))
 
 -- ---- resolving
-
-cell-word : (t : List ℕ) (p : Piece) → Located t p → textAt t (pieceCell p) ≡ p .word
-unfolding textAt textFrom pieceCell spanOf
-cell-word t p h = h .bytes
 
 enter-known : (t : List ℕ) (cs : List Cell) (w : List ℕ) (c : Cell) → isKnown t cs w ≡ true → enter cs (findName t cs w) c ≡ cs
 unfolding enter isKnown
@@ -121,11 +113,6 @@ known-length t cs (p ∷ ps) a =
     let z : length (enter cs (findName t cs w) c) + newIn t (enter cs (findName t cs w) c) ps ≡ length (cs ++ c ∷ []) + newIn t (cs ++ c ∷ []) ps =
     ap (λ (es : List Cell). length es + newIn t es ps) (enter-new t cs w c e) in
     omega (arith, ih, z, length-append cs (c ∷ []), less t cs c w e (cell-word t p (a .0)) ps, one-new t cs w ps e))
-
-pub refs-length : (t : List ℕ) (cs : List Cell) (ps : List Piece) → length (resolve t cs ps .refs) ≡ length ps
-unfolding resolve
-refs-length t cs [] = refl
-refs-length t cs (p ∷ ps) = ap suc (refs-length t _ ps)
 
 -- ---- the text before the event and the text after it
 

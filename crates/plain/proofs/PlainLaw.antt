@@ -9,10 +9,10 @@ use lib.Dec.{eqb, leb}
 use lib.ListN.{length, take, drop, length-take}
 use borrow.Author.Tests.{eqb-true, leb-true, not-true}
 use Rattle.definition.specs.Limits.{limits01}
-use Rattle.definition.specs.Text.{allAllowed}
-use Rattle.definition.specs.Event.{prepend, unescapeFrom, ifAllowed, legible, Attribute, Event, hasText, kindFits, between, attributesFit, textFits, inForm}
+use Rattle.definition.specs.Event.{prepend, unescapeFrom, legible, Attribute, Event, hasText, kindFits, between, attributesFit, textFits, inForm}
 use Rattle.definition.specs.Look.{Load, valueLoads}
 use Rattle.definition.proofs.Base.{true-is-false, none-is-some, some-inj, and-left, and-right}
+use Rattle.definition.proofs.EventLength.{allowed-same}
 use Rattle.lines.specs.Parts.{part, orNothing}
 use Rattle.words.proofs.Laws.{by}
 use Rattle.parts.specs.declared.Part.{Part}
@@ -86,20 +86,11 @@ same-text (b ∷ bs) v e h =
     let p : Prepended b (unescapeFrom false bs) v = prepended b (unescapeFrom false bs) v (sym (un-plain b bs q) ∙ e) in
     ap (λ (r : List ℕ). b ∷ r) (same-text bs (p .rest) (p .read) (omega (arith, h, ap length (p .all)))) ∙ sym (p .all))
 
-allowed-is : (o : Option (List ℕ)) (v : List ℕ) → ifAllowed o ≡ some v → o ≡ some v
-unfolding ifAllowed
-allowed-is none v e = e
-allowed-is (some w) v e = go (allAllowed w) refl
-  where
-    go : (c : Bool) → allAllowed w ≡ c → some w ≡ some v
-    go true q = rw (q, ifAllowed) at e
-    go false q = none-is-some v (rw (q, ifAllowed) at e)
-
 -- A PART WITHOUT ESCAPES IS WHAT IT READS AS
 pub plain-part : (raw : List ℕ) (p : Part) (v : List ℕ) → Reads raw p v → isPlain p ≡ true → part raw (p .at) (p .len) ≡ v
 unfolding legible isPlain part
 plain-part raw p v r e =
-    same-text (part raw (p .at) (p .len)) v (allowed-is (unescapeFrom false (part raw (p .at) (p .len))) v (r .shown))
+    same-text (part raw (p .at) (p .len)) v (allowed-same (unescapeFrom false (part raw (p .at) (p .len))) v (r .shown))
     (omega (arith, length-take (p .len) (drop (p .at) raw), eqb-true (p .len) (p .size) e, r .long))
 
 -- ---- what is seen

@@ -11,6 +11,7 @@ use Rattle.definition.specs.Rows.{Row, Table, table, num, entry, list, Numbers,
 use Rattle.definition.specs.Change.{_≔_, numbers, Change, Outcome, done, nothing, altering, pushed, made, freshRegion, nestedRegion, openRegionRow}
 use Rattle.definition.specs.Actions.{Walk, meets, nowhere, noIf, walkFrom, walked, startElse, elseIfBranch, startElseIf, startRegion, endListed, endFinalize, lastInvoke}
 use Rattle.definition.specs.Reader.{onDone, started, finished}
+use Rattle.definition.proofs.Changes.{without-snoc}
 use Rattle.plan.specs.declared.Plan.{Plan}
 use Rattle.plan.specs.Plan.{Planned, planned}
 use Rattle.plan.specs.After.{verdictOf}
@@ -20,7 +21,7 @@ use Rattle.plan.specs.declared.Walked.{Walked}
 use Rattle.plan.specs.Seen.{seen, walkedAs, walkIn, closes}
 use Rattle.plan.specs.Plans.{walkedP, elsePlan, elseP, elseIfPlan, elseIfP, regionP, endListedP, bothListedP, endFinalizeP, bothFinalizeP}
 use Rattle.plan.proofs.Base.{Tables, full, looked}
-use Rattle.plan.proofs.Laws.{back, last-snoc, pop-snoc}
+use Rattle.plan.proofs.Laws.{back, last-snoc}
 use Rattle.plan.proofs.Frame.{Next, toOpen, toEnd, toBoth, Meets, by-unless, by-unless-as, by-either, by-closing}
 
 by-walked : (m : ℕ) (l : Look) (n : Numbers) (k : Next) (w : Walk) (r : ℕ) (x : Change) (f : ℕ → Plan)
@@ -91,15 +92,15 @@ module _ (T : Tables) (c i d a e k : ℕ) (l₀ : Look) where
 
   pub both-onentry : Meets 1 (el 17) n (toBoth (el 17) n) (startRegion n (el 17)) (bothListedP 3 (see 17))
   unfolding seen inRegion startRegion started finished verdictOf bothListedP
-  both-onentry = by-unless-as 1 (el 17) n (toEnd (el 17) (inRegion 17)) (currentState (inRegion 17)) (currentState n) (in-state 17) _ _ (rw (in-state 17, pop-snoc (T .opened), pop-snoc (T .openNames)))
+  both-onentry = by-unless-as 1 (el 17) n (toEnd (el 17) (inRegion 17)) (currentState (inRegion 17)) (currentState n) (in-state 17) _ _ (rw (in-state 17, without-snoc (T .opened), without-snoc (T .openNames)))
 
   pub both-onexit : Meets 1 (el 18) n (toBoth (el 18) n) (startRegion n (el 18)) (bothListedP 4 (see 18))
   unfolding seen inRegion startRegion started finished verdictOf bothListedP
-  both-onexit = by-unless-as 1 (el 18) n (toEnd (el 18) (inRegion 18)) (currentState (inRegion 18)) (currentState n) (in-state 18) _ _ (rw (in-state 18, pop-snoc (T .opened), pop-snoc (T .openNames)))
+  both-onexit = by-unless-as 1 (el 18) n (toEnd (el 18) (inRegion 18)) (currentState (inRegion 18)) (currentState n) (in-state 18) _ _ (rw (in-state 18, without-snoc (T .opened), without-snoc (T .openNames)))
 
   pub both-finalize : Meets 1 (el 11) n (toBoth (el 11) n) (startRegion n (el 11)) (bothFinalizeP (see 11))
   unfolding seen inRegion startRegion started finished verdictOf bothFinalizeP
   both-finalize =
       let k : Next = toEnd (el 11) (inRegion 11) in
       by-unless-as 1 (el 11) n k (currentState (inRegion 11)) (currentState n) (in-state 11) _ _
-      (by-unless-as 1 (el 11) n k (lastInvoke (inRegion 11) (currentState (inRegion 11))) (lastInvoke n (currentState n)) (ap (lastInvoke n) (in-state 11)) _ _ (rw (in-state 11, pop-snoc (T .opened), pop-snoc (T .openNames))))
+      (by-unless-as 1 (el 11) n k (lastInvoke (inRegion 11) (currentState (inRegion 11))) (lastInvoke n (currentState n)) (ap (lastInvoke n) (in-state 11)) _ _ (rw (in-state 11, without-snoc (T .opened), without-snoc (T .openNames))))

@@ -22,7 +22,7 @@ use Rattle.plan.specs.Seen.{seen}
 use Rattle.plan.specs.Heard.{heard}
 use Rattle.plan.specs.Plans.{begun, initialP, donedataP, dataP, invokeP, byParentP, ofLastSendP, ofLastInvokeP, ofDonedataP, paramP, contentP, onlyNestP}
 use Rattle.plan.proofs.Base.{Tables, full, looked}
-use Rattle.plan.proofs.Loops.{alsoAll, words-all, edits-append, words-rows}
+use Rattle.plan.proofs.Loops.{alsoAll, words-all, words-rows}
 use Rattle.plan.proofs.Frame.{Next, toOpen, Meets, by-unless, by-either, by-initial}
 
 -- ---- tests of param and content

@@ -10,9 +10,10 @@ use native.Mathlib.Omega.{arith}
 use Rattle.definition.specs.declared.Limits.{Limits}
 use Rattle.definition.specs.Rows.{Row, Table, table, list, Numbers, tableOf}
 use Rattle.definition.specs.Look.{Look}
-use Rattle.definition.specs.Change.{alterRow, stateRow, entered}
+use Rattle.definition.specs.Change.{stateRow, entered}
 use Rattle.definition.specs.Rules.{allWithin, chartLimits, countersWithin, withinLimits}
 use Rattle.definition.specs.Reader.{allAtMost}
+use Rattle.definition.proofs.Changes.{alter-length}
 use Rattle.plan.specs.declared.ChartPlan.{ChartPlan}
 use Rattle.plan.specs.declared.StatePlan.{StatePlan}
 use Rattle.plan.specs.declared.TransitionPlan.{TransitionPlan}
@@ -29,13 +30,6 @@ use Rattle.plan.specs.After.{addedIf, memberRow, chartAfter, statesAfter
 use Rattle.plan.specs.Decided.{oneUnless, unless, membersAdded, countsAfter, staysWithin}
 
 -- ---- lengths
-
-pub alter-length : (i : ℕ) (f : Row → Row) (rs : Table) → length (alterRow i f rs) ≡ length rs
-unfolding alterRow
-alter-length zero f rs = refl
-alter-length (suc i) f [] = refl
-alter-length (suc zero) f (r ∷ rs) = refl
-alter-length (suc (suc i)) f (r ∷ rs) = ap suc (alter-length (suc i) f rs)
 
 pub added-length : (k : ℕ) (r : Row) (rs : Table) → length (addedIf k r rs) ≡ length rs + oneUnless k
 unfolding addedIf oneUnless

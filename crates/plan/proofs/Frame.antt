@@ -11,6 +11,7 @@ use Rattle.definition.specs.Look.{Look}
 use Rattle.definition.specs.Change.{Change, Outcome, done, refuse, nothing, made, pushed, popped, unlessZero, Closed, closedBy, onClosed, closing}
 use Rattle.definition.specs.States.{initialOf, unlessInitial}
 use Rattle.definition.specs.Reader.{Verdict, accept, reject, onDone, endOf, started, finished}
+use Rattle.definition.proofs.Changes.{without-snoc}
 use native.Mathlib.Omega.{arith}
 use Rattle.plan.specs.declared.Plan.{Plan}
 use Rattle.plan.specs.Plan.{Planned, planned, refused}
@@ -19,7 +20,7 @@ use Rattle.plan.specs.declared.Seen.{Seen}
 use Rattle.plan.specs.declared.Closing.{Closing}
 use Rattle.plan.specs.Seen.{closedAt, closes, seen}
 use Rattle.plan.specs.Plans.{unlessZeroP, closingP, unlessInitialP}
-use Rattle.plan.proofs.Laws.{regionsOf, closed-is, pop-snoc}
+use Rattle.plan.proofs.Laws.{regionsOf, closed-is}
 
 -- What is done with a change: an element's start, its end, or both.
 abbrev pub Next : Type 0
@@ -112,7 +113,7 @@ module _ (l : Look) (n : Numbers) (idle-end : (m : Numbers) → endOf (l .tag) m
   end-plain (planned p) =
       let m : Numbers = applied 0 l p n in
       ap (λ (o : Outcome). onDone o (λ c. accept (popped (made l c m)))) (idle-end m)
-      ∙ rw (reverse-reverse, pop-snoc, pop-snoc)
+      ∙ rw (reverse-reverse, without-snoc, without-snoc)
 
   pub by-plain : (o : Outcome) (P : Planned) → Meets 0 l n (toOpen l n) o P → Meets 1 l n (toBoth l n) o P
   by-plain o P h = both-then l n o ∙ ap (λ (v : Verdict). thenV v (finished l)) h ∙ end-plain P

@@ -10,7 +10,7 @@ use Rattle.definition.proofs.Base.{is-true, T-of}
 use lib.Seq.{take-suc, take-length, getD-set-same, getD-set-other, set-comm}
 use native.Mathlib.Omega.{arith}
 use Rattle.definition.specs.Rows.{Row, Table, num, rowOf, lastOf, openRegion}
-use Rattle.definition.specs.Change.{alterRow, withoutLast, Closed, closedBy}
+use Rattle.definition.specs.Change.{alterRow, Closed, closedBy}
 use Rattle.definition.specs.Actions.{placeOfNumber}
 use Rattle.plan.specs.After.{put}
 use Rattle.plan.specs.declared.Closing.{Closing}
@@ -43,12 +43,6 @@ pub last-snoc : (d r : Row) (rs : Table) → lastOf d (rs ++ r ∷ []) ≡ r
 unfolding lastOf
 last-snoc d r [] = refl
 last-snoc d r (x ∷ rs) = last-snoc x r rs
-
-pub pop-snoc : (rs : Table) (r : Row) → withoutLast (rs ++ r ∷ []) ≡ rs
-unfolding withoutLast
-pop-snoc [] r = refl
-pop-snoc (x ∷ []) r = refl
-pop-snoc (x ∷ y ∷ rs) r = ap (λ (z : Table). x ∷ z) (pop-snoc (y ∷ rs) r)
 
 pub alter-last : (rs : Table) (r : Row) (f : Row → Row) → alterRow (suc (length rs)) f (rs ++ r ∷ []) ≡ rs ++ f r ∷ []
 unfolding alterRow

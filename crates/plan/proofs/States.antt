@@ -12,6 +12,7 @@ use Rattle.definition.specs.Rows.{Table, table, list, chart, shallow, state, tr
 use Rattle.definition.specs.Change.{_≔_, numbers, shape, Edit, add, alter, Change, done, nothing, altering, has, codeFor, edited, editedBy}
 use Rattle.definition.specs.States.{ownState, otherStates, initialTransition, isChild, childOf, declared, startState, startParallel, startFinal, inHistory, startHistory, binding, startScxml}
 use Rattle.definition.specs.Reader.{onDone, started, finished}
+use Rattle.definition.proofs.Changes.{edits-append}
 use Rattle.plan.specs.declared.Plan.{Plan}
 use Rattle.plan.specs.Plan.{onChart, Planned, planned}
 use Rattle.plan.specs.After.{statesAfter, transitionsAfter, membersAfter, verdictOf}
@@ -22,7 +23,7 @@ use Rattle.plan.specs.Plans.{parentTo, declaredRow, initialRow, docsAfte
 use Rattle.plan.specs.declared.Declared.{Declared}
 use Rattle.plan.proofs.Base.{Tables, full, looked}
 use Rattle.plan.proofs.Laws.{draw-id, draw-doc, draw-zero, draw-one, alter-alter}
-use Rattle.plan.proofs.Loops.{alsoAll, memberEdits, members-all, edits-two, edits-three, edits-four, edits-append, members-rows}
+use Rattle.plan.proofs.Loops.{alsoAll, memberEdits, members-all, edits-two, edits-three, edits-four, members-rows}
 use Rattle.plan.proofs.Frame.{Next, toOpen, toEnd, toBoth, Meets, by-unless, by-either}
 
 others-drop : (vs : List ℕ) → otherStates vs ≡ drop 1 vs

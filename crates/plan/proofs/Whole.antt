@@ -13,6 +13,7 @@ use Rattle.definition.specs.Rows.{Row, Table, table, list, num, rowOf, sameList
 use Rattle.definition.specs.Change.{has}
 use Rattle.definition.specs.States.{ownState, isChild, initialOf, startState, startScxml}
 use Rattle.definition.specs.Reader.{Verdict, accept, endOf}
+use Rattle.definition.proofs.Changes.{without-snoc}
 use Rattle.plan.specs.declared.ChartPlan.{ChartPlan}
 use Rattle.plan.specs.declared.MemberPlan.{MemberPlan}
 use Rattle.plan.specs.declared.Plan.{Plan}
@@ -25,7 +26,7 @@ use Rattle.plan.specs.Heard.{heard}
 use Rattle.plan.specs.Plans.{unlessZeroP, idleIn, asChild, declaredPlan, defaultTo, defaultP, defaulted, bothDeclared, stateP, bothStateP, bindingTo, scxmlPlan, scxmlP, bothScxmlP, endStateP, endScxmlP}
 use Rattle.plan.specs.declared.Declared.{Declared}
 use Rattle.plan.proofs.Base.{Tables, full, tablesOf, looked}
-use Rattle.plan.proofs.Laws.{last-snoc, pop-snoc, alter-alter, alter-keeps, alter-sets, put-keeps, initial-early, suc-not-zero}
+use Rattle.plan.proofs.Laws.{last-snoc, alter-alter, alter-keeps, alter-sets, put-keeps, initial-early, suc-not-zero}
 use Rattle.plan.proofs.Frame.{toOpen, toEnd, toBoth, Meets, by-then}
 use Rattle.plan.proofs.States.{start-state, start-scxml}
 use Rattle.plan.proofs.Defaults.{first-append, end-state, end-scxml}
@@ -72,7 +73,7 @@ module _ (T : Tables) (c i d a e k : ℕ) (l₀ : Look) (g : ℕ) (ch : ChartPla
   -- Nothing more to be done at the end.
   at-rest : (b : Bool) → applied 2 l (idleIn (inside 0 0) (w b)) (m b) ≡ applied 1 l (onChart ch (declaredPlan b x v o)) n
   unfolding seen heard applied declaredPlan idleIn
-  at-rest b = rw (pop-snoc (T .opened), pop-snoc (T .openNames), take-length (take (length rs) rs))
+  at-rest b = rw (without-snoc (T .opened), without-snoc (T .openNames), take-length (take (length rs) rs))
 
   initial-given : 3 < length (rowOf (T .states) own) → initialOf (m true) own ≡ suc i
   unfolding seen heard initialOf applied declaredPlan put
@@ -90,7 +91,7 @@ module _ (T : Tables) (c i d a e k : ℕ) (l₀ : Look) (g : ℕ) (ch : ChartPla
   default-then : (f : ℕ) → applied 2 l (defaultTo own f (w false)) (m false) ≡ applied 1 l (onChart ch (defaulted f x v o)) n
   unfolding seen heard applied declaredPlan defaultTo defaulted
   default-then zero = at-rest false
-  default-then (suc f) = rw (alter-alter, initial-early q (suc d) (suc i), pop-snoc (T .opened), pop-snoc (T .openNames), take-length (take (length rs) rs))
+  default-then (suc f) = rw (alter-alter, initial-early q (suc d) (suc i), without-snoc (T .opened), without-snoc (T .openNames), take-length (take (length rs) rs))
 
   -- Without an `initial` attribute; z is the initial before, f the first child as it would be.
   without : (z f : ℕ) → verdictOf 2 l (m false) (elim (eqb z 0) [ true ↦ planned (defaultTo own f (w false)) | false ↦ planned (idleIn (inside 0 0) (w false)) ])

@@ -1,5 +1,5 @@
 -- All numbers are small: what the code of a decision and of question 15 requires, for every store that keeps the rules and every event in form.
-use Prim.Native.Nat.{ℕ, zero, suc, _+_, _*_, _/_, _%_, _≤_}
+use Prim.Native.Nat.{ℕ, zero, suc, _+_, _*_, _≤_}
 use mathlib.Core.Path.{_≡_, refl, ap}
 use mathlib.Core.Bool.{Bool, true, false, _&&_}
 use mathlib.Core.Option.{Option, none, some}
@@ -8,7 +8,7 @@ use native.Mathlib.Omega.{arith}
 use lib.Dec.{eqb, ltb, leb}
 use lib.ListN.{length, getD, drop, length-append, length-drop, length-map}
 use Rattle.definition.specs.Limits.{limits01}
-use Rattle.definition.specs.Text.{same, Span, Piece, emit, pieces, wordsBy, isSpace, isSeparator, strippedPiece, eventWords, stateWords, stateWordsAt, wildcard, isTrue, lowered, placeIn, str, digits, decimal, generatedName, trim, quoted}
+use Rattle.definition.specs.Text.{same, Span, Piece, emit, pieces, wordsBy, isSpace, isSeparator, strippedPiece, eventWords, stateWords, stateWordsAt, wildcard, isTrue, lowered, placeIn, str, generatedName, trim, quoted}
 use Rattle.definition.specs.Elements.{tag, key, tagOf, Role, name, names, masked, plain, roleOf, codings, wordsTaken}
 use Rattle.definition.specs.Event.{Event, Attribute, between, attributesFit, textFits, kindFits, inForm}
 use Rattle.definition.specs.Rows.{Cell, shallow, Numbers, tableOf, Store}
@@ -18,8 +18,9 @@ use Rattle.definition.specs.States.{ownState}
 use Rattle.definition.specs.Rules.{keepsRules}
 use Rattle.definition.specs.Reader.{rowsIn, positionOf}
 use Rattle.kept.proofs.Base.{test as by, le-of, and-left, and-right, false-is-true}
-use Rattle.kept.proofs.Codes.{field-code, charge-covers}
-use Rattle.definition.proofs.Finds.{find-le}
+use Rattle.kept.proofs.Codes.{field-code}
+use Rattle.definition.proofs.Finds.{find-le, refs-length, cells-length}
+use Rattle.definition.proofs.Charges.{charge-covers, generated-le}
 use Rattle.plan.specs.declared.Plan.{Plan}
 use Rattle.plan.specs.declared.MemberPlan.{MemberPlan}
 use Rattle.plan.specs.Plan.{planned}
@@ -29,7 +30,7 @@ use Rattle.plan.specs.Seen.{seen}
 use Rattle.plan.specs.Heard.{heard}
 use Rattle.plan.specs.Small.{Small, Counted, wordsOn, Brought}
 use Rattle.planfacts.proofs.Given.{Few, few}
-use Rattle.planfacts.proofs.UseOf.{cells-length, state-le}
+use Rattle.planfacts.proofs.UseOf.{state-le}
 use Rattle.planfacts.proofs.Listed.{Words, no-words, events, names-of-send, names-of-invoke, listed, unlisted}
 
 -- ---- words
@@ -123,11 +124,6 @@ role-code-le plain g k v = code-le g k v
 
 -- ---- names
 
-refs-length : (t : List ℕ) (cs : List Cell) (ps : List Piece) → length (resolve t cs ps .refs) ≡ length ps
-unfolding resolve
-refs-length t cs [] = refl
-refs-length t cs (p ∷ ps) = ap suc (refs-length t (enter cs (findName t cs (p .word)) (pieceCell p)) ps)
-
 own-le : (t : List ℕ) (cs : List Cell) (ps : List Piece) → getD (resolve t cs ps .refs) 0 0 ≤ suc (length cs)
 unfolding resolve
 own-le t cs [] = omega arith
@@ -179,19 +175,6 @@ unfolding namesBrought
 brought-le g o is = omega (arith, all-own-le g o is, all-words-le g o is, length-append (namesFrom ownName g o is) (namesFrom wordNames g o is))
 
 -- ---- the charge of an event in form
-
-digits-le : (f n : ℕ) → length (digits f n) ≤ f
-unfolding digits
-digits-le zero n = omega arith
-digits-le (suc f) n = go (ltb n 10) (digits-le f (n / 10))
-  where
-    go : (b : Bool) → length (digits f (n / 10)) ≤ f → length {A = ℕ} (elim b [ true ↦ (48 + n) ∷ [] | false ↦ digits f (n / 10) ++ (48 + n % 10) ∷ [] ]) ≤ suc f
-    go true h = omega arith
-    go false h = omega (arith, h, length-append (digits f (n / 10)) ((48 + n % 10) ∷ []))
-
-generated-le : (n : ℕ) → length (generatedName n) ≤ 24
-unfolding generatedName decimal str
-generated-le n = omega (arith, digits-le 20 n)
 
 made-le : (b : Bool) (n : ℕ) → length (payload (nameLoads b n)) ≤ 24
 unfolding payload nameLoads

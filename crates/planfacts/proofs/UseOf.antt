@@ -1,21 +1,22 @@
 -- What is seen of a store that keeps the rules, and heard of an event, names rows in use.
-use Prim.Native.Nat.{ℕ, zero, suc, _+_, _≤_}
-use mathlib.Core.Path.{_≡_, refl, ap}
-use mathlib.Core.Bool.{Bool, true, false, _&&_}
+use Prim.Native.Nat.{ℕ, zero, suc, _≤_}
+use mathlib.Core.Path.{_≡_, refl}
+use mathlib.Core.Bool.{Bool, true, false}
 use mathlib.Core.List.{List, [], _∷_, _++_}
 use native.Mathlib.Omega.{arith}
 use lib.Dec.{eqb}
 use lib.ListN.{length, getD}
 use Rattle.definition.specs.declared.Limits.{Limits}
-use Rattle.definition.specs.Text.{same}
 use Rattle.definition.specs.Event.{Event}
-use Rattle.definition.specs.Rows.{Row, Table, num, rowOf, columnsOf, cellAt, textAt, Numbers, tableOf, Store, currentState, root}
-use Rattle.definition.specs.Look.{look, payload, loadsOf, idIn, findDatum, nameCells}
+use Rattle.definition.specs.Rows.{Row, Table, num, rowOf, columnsOf, Numbers, tableOf, Store, currentState, root}
+use Rattle.definition.specs.Look.{look, payload, loadsOf, idIn, findDatum}
 use Rattle.definition.specs.Elements.{tagOf}
 use Rattle.definition.specs.Change.{nothing, editedBy}
 use Rattle.definition.specs.States.{ownState}
-use Rattle.definition.specs.Actions.{placeOfNumber, lastWith, lastEntry, lastInvoke, meets, noIf, elseWalk, walkFrom}
+use Rattle.definition.specs.Actions.{lastEntry, lastInvoke, meets, noIf, elseWalk, walkFrom}
 use Rattle.definition.specs.Rules.{keepsRules, hasOwnNumber, chosen}
+use Rattle.definition.proofs.Changes.{place-le, last-le}
+use Rattle.definition.proofs.Finds.{cells-length, datum-le}
 use Rattle.kept.proofs.Base.{All}
 use Rattle.kept.proofs.Classes.{OrZero, Fits, Nums}
 use Rattle.kept.proofs.Grow.{nth-from}
@@ -33,26 +34,6 @@ use Rattle.plan.specs.Heard.{heard}
 use Rattle.planfacts.proofs.Places.{InUse}
 
 -- ---- searches end inside their tables
-
-place-le : (rs : Table) (i : ℕ) → placeOfNumber rs i ≤ length rs
-unfolding placeOfNumber
-place-le [] i = omega arith
-place-le (r ∷ rs) i = go (eqb (num r 0) i) (placeOfNumber rs i) (place-le rs i)
-  where
-    go : (b : Bool) (p : ℕ) → p ≤ length rs → elim b [ true ↦ 1 | false ↦ elim p [ zero ↦ 0 | suc q ↦ suc (suc q) ] ] ≤ suc (length rs)
-    go true p h = omega arith
-    go false zero h = omega arith
-    go false (suc p) h = omega arith
-
-last-le : (c v i a : ℕ) (rs : Table) → a ≤ i → lastWith c v i a rs ≤ i + length rs
-unfolding lastWith
-last-le c v i a [] h = omega arith
-last-le c v i a (r ∷ rs) h = go (eqb (num r c) v) (last-le c v (suc i) (suc i) rs (omega arith)) (last-le c v (suc i) a rs (omega arith))
-  where
-    go : (b : Bool) → lastWith c v (suc i) (suc i) rs ≤ suc i + length rs → lastWith c v (suc i) a rs ≤ suc i + length rs
-        → elim b [ true ↦ lastWith c v (suc i) (suc i) rs | false ↦ lastWith c v (suc i) a rs ] ≤ i + suc (length rs)
-    go true x y = omega (arith, x)
-    go false x y = omega (arith, y)
 
 entry-le : (n : Numbers) (r : ℕ) → lastEntry n r ≤ length (tableOf n 4)
 unfolding lastEntry
@@ -105,15 +86,6 @@ walk-le n x = go (x .met) (from (x .current .0))
     go zero h = omega arith
     go (suc m) h = h
 
-found-le : (t : List ℕ) (rs : Table) (s : ℕ) (w : List ℕ) → findDatum t rs s w ≤ suc (length rs)
-unfolding findDatum
-found-le t [] s w = omega arith
-found-le t (r ∷ rs) s w = go (eqb (num r 0) s && same (textAt t (cellAt r 1)) w) (found-le t rs s w)
-  where
-    go : (b : Bool) → findDatum t rs s w ≤ suc (length rs) → elim b [ true ↦ 1 | false ↦ suc (findDatum t rs s w) ] ≤ suc (suc (length rs))
-    go true h = omega arith
-    go false h = omega (arith, h)
-
 -- ---- numbers that the rules speak of
 
 or-le : (T : List Table) (t v : ℕ) → hasOwnNumber t ≡ false → OrZero T t v → v ≤ length (getD T t [])
@@ -129,13 +101,8 @@ unfolding Nums Fits columnsOf chosen hasOwnNumber
 first-column u T i d [] h = absurd (h .nums)
 first-column u T i d (v ∷ vs) h = or-le T 1 v refl (h .nums .0)
 
-pub cells-length : (rs : Table) → length (nameCells rs) ≡ length rs
-unfolding nameCells
-cells-length [] = refl
-cells-length (r ∷ rs) = ap suc (cells-length rs)
-
 data-le : (b : Bool) (t : List ℕ) (rs : Table) (c : ℕ) (w : List ℕ) → elim b [ true ↦ findDatum t rs c w | false ↦ 0 ] ≤ suc (length rs)
-data-le true t rs c w = found-le t rs c w
+data-le true t rs c w = datum-le t rs c w
 data-le false t rs c w = omega arith
 
 module _ (L : Limits) (s : Store) (e : Event) (rules : keepsRules L s ≡ true) where

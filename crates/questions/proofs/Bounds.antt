@@ -12,19 +12,8 @@ use Rattle.definition.specs.Rows.{Table}
 use Rattle.definition.specs.Rules.{allWithin, tableLimits, chartLimits, openLimits, countersWithin, keepsRules}
 use Rattle.definition.specs.declared.Position.{Position}
 use Rattle.definition.specs.Reader.{longEnough, allLong, allAtMost, counts, taken, storeOf, inOrder}
+use Rattle.definition.proofs.Base.{and-true, elim-and, and-left, and-right}
 use Rattle.questions.specs.Lent.{tables, lent, store, rulesKept, countsFit, countersFit, Few}
-
-elim-and : (a b : Bool) → elim a [ true ↦ b | false ↦ false ] ≡ a && b
-elim-and true b = refl
-elim-and false b = refl
-
-and-left : (a b : Bool) → a && b ≡ true → a ≡ true
-and-left true b e = refl
-and-left false b e = e
-
-and-right : (a b : Bool) → a && b ≡ true → b ≡ true
-and-right true b e = e
-and-right false b e = let z : _≡_ {A = ℕ} 0 1 = cc in let w : ⊥ = omega arith in absurd w
 
 pub at-most : (k m : ℕ) (ks ms : List ℕ) → allAtMost (k ∷ ks) (m ∷ ms) ≡ leb k m && allAtMost ks ms
 unfolding allAtMost
@@ -65,10 +54,6 @@ module _ (ts : List Table) (text : List ℕ) (p : Position) where
     in-order-rest f = rw (e, inOrder, asked, f, keepsRules)
 
 -- ---- the counts, one by one
-
-and-true : (b : Bool) → b && true ≡ b
-and-true true = refl
-and-true false = refl
 
 none-left : (ms : List ℕ) → allAtMost [] ms ≡ true
 unfolding allAtMost

@@ -10,15 +10,8 @@ use Rattle.definition.specs.Rules.{rowsKeep, tablesKeep, rises, noneIn, numbers
 use Rattle.columns.specs.declared.Known.{Known}
 use Rattle.columns.specs.Sees.{Sees}
 use Rattle.definition.specs.declared.Position.{Position}
+use Rattle.definition.proofs.Base.{and-true, elim-and}
 use Rattle.questions.specs.Lent.{tables, store, rulesKept, knownOf}
-
-elim-and : (a b : Bool) → elim a [ true ↦ b | false ↦ false ] ≡ a && b
-elim-and true b = refl
-elim-and false b = refl
-
-pub and-true : (b : Bool) → b && true ≡ b
-and-true true = refl
-and-true false = refl
 
 pub tables-more : (s : Store) (cs : List Class) (css : List (List Class)) (t : Table) (ts : List Table) → tablesKeep s (cs ∷ css) (t ∷ ts) ≡ rowsKeep s cs t && tablesKeep s css ts
 unfolding tablesKeep

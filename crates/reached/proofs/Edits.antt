@@ -7,11 +7,13 @@ use lib.ListN.{length, getD, set, length-set}
 use lib.Dec.{eqb, ltb}
 use native.Mathlib.Omega.{arith}
 use Rattle.definition.specs.Elements.{among}
-use Rattle.definition.specs.Rows.{Row, Table, Class, num, blank, columnsOf, Cell, cellAt, withCell, free}
+use Rattle.definition.specs.Rows.{Row, Table, Class, num, blank, columnsOf, cellAt, withCell, free}
 use Rattle.definition.specs.Shapes.{Filling, Shape, Shaped, shapeAt, shapesIn, shapesByElement, noShape}
 use Rattle.definition.specs.Look.{Look}
 use Rattle.definition.specs.Change.{Put, Edit, add, alter, cellOf, filledBy, putOne, putAll, isNumber, shapeOf, alterRow, onTable, edited, editedBy}
-use Rattle.reached.proofs.Tables.{set-view, and-left, and-right, both, among-not}
+use Rattle.definition.proofs.Changes.{cell-length}
+use Rattle.definition.proofs.Base.{and-both}
+use Rattle.reached.proofs.Tables.{set-view, and-left, and-right, among-not}
 
 -- ---- safe edits
 
@@ -100,10 +102,6 @@ put-length cs (p ∷ ps) r = put-length cs ps (putOne cs p r) ∙ go (isNumber (
     go : (b : Bool) → length {A = ℕ} (elim b [ true ↦ set r (p .column) (p .to) | false ↦ r ]) ≡ length r
     go true = length-set r (p .column) (p .to)
     go false = refl
-
-pub cell-length : (c : ℕ) (x : Cell) (r : Row) → length (withCell c x r) ≡ length r
-unfolding withCell
-cell-length c x r = length-set (set r c (x .at)) (suc c) (x .len) ∙ length-set r c (x .at)
 
 pub fill-length : (l : Look) (i : ℕ) (fs : List Filling) (r : Row) → length (filledBy l i fs r) ≡ length r
 unfolding filledBy
@@ -221,9 +219,4 @@ edits-size l (e ∷ es) ts = edits-size l es (edited l e ts) ∙ edit-size l e t
 pub safe-append : (g : ℕ) (es fs : List Edit) → safeEdits g es ≡ true → safeEdits g fs ≡ true → safeEdits g (es ++ fs) ≡ true
 unfolding safeEdits
 safe-append g [] fs s t = t
-safe-append g (e ∷ es) fs s t = both (safeEdit g e) (safeEdits g (es ++ fs)) (and-left (safeEdit g e) (safeEdits g es) s) (safe-append g es fs (and-right (safeEdit g e) (safeEdits g es) s) t)
-
-pub edits-append : (l : Look) (es fs : List Edit) (ts : List Table) → editedBy l (es ++ fs) ts ≡ editedBy l fs (editedBy l es ts)
-unfolding editedBy
-edits-append l [] fs ts = refl
-edits-append l (e ∷ es) fs ts = edits-append l es fs (edited l e ts)
+safe-append g (e ∷ es) fs s t = and-both (safeEdit g e) (safeEdits g (es ++ fs)) (and-left (safeEdit g e) (safeEdits g es) s) (safe-append g es fs (and-right (safeEdit g e) (safeEdits g es) s) t)

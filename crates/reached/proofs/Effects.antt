@@ -14,8 +14,9 @@ use Rattle.definition.specs.Look.{Look}
 use Rattle.definition.specs.Change.{Put, _≔_, Which, numbers, shape, add, alter, Change, done, also, adding, altering, inState, inside, addWords, shapeOf, nothing, onTable, edited, editedBy, filledBy, putAll, putOne, alterRow, has, codeFor, wordsOf}
 use Rattle.definition.specs.States.{ownState, declared, binding, startScxml, startDonedata}
 use Rattle.definition.specs.Actions.{lastWith, startInvoke}
+use Rattle.definition.proofs.Changes.{edits-append}
 use Rattle.reached.proofs.Tables.{set-view, all-at, altered-at, last-added, within}
-use Rattle.reached.proofs.Edits.{guarded, some?, safeShape, safePut, safePuts, safeTexts, safeEdit, safeEdits, edits-append, fill-length}
+use Rattle.reached.proofs.Edits.{guarded, some?, safeShape, safePut, safePuts, safeTexts, safeEdit, safeEdits, fill-length}
 use Rattle.reached.proofs.Stack.{idle, Idle, bare-idle}
 use Rattle.reached.proofs.Growth.{RootOf, Fact, HasState, HasDone, HasInvoke, Wide, Solid, Grows, solid-grows, fact-grows}
 use Rattle.reached.proofs.Reached.{Reached, tagsOf, after, root-back}

@@ -10,7 +10,8 @@ use Rattle.definition.specs.Rows.{Row, Table, num, rowOf, blank}
 use Rattle.definition.specs.Look.{Look}
 use Rattle.definition.specs.Change.{Edit, editedBy}
 use Rattle.definition.specs.Actions.{lastWith}
-use Rattle.reached.proofs.Tables.{set-view, AllRows, all-snoc, all-altered, altered-row, length-altered, last-grows, last-altered}
+use Rattle.definition.proofs.Changes.{alter-length}
+use Rattle.reached.proofs.Tables.{set-view, AllRows, all-snoc, all-altered, altered-row, last-grows, last-altered}
 use Rattle.reached.proofs.Edits.{guarded, safeEdits, Stable, edits-stable, edits-size}
 use Rattle.reached.proofs.Stack.{holders}
 
@@ -78,7 +79,7 @@ long-stable : (k m : ℕ) → Stable k (λ rs. m ≤ length rs)
 long-stable k m =
     record {
       added = λ rs r e h. omega (arith, length-append rs (r ∷ []));
-      altered = λ j F K rs h. omega (arith, length-altered j F rs);
+      altered = λ j F K rs h. omega (arith, alter-length j F rs);
     }
 
 added-num : (rs : Table) (r : Row) (i c : ℕ) → ¬ (num (getD rs i []) c ≡ 0) → ¬ (num (getD (rs ++ r ∷ []) i []) c ≡ 0)

@@ -13,7 +13,8 @@ use Rattle.definition.specs.Rows.{Row, Table, num, Numbers, innermost, parentTa
 use Rattle.definition.specs.Look.{Look}
 use Rattle.definition.specs.Change.{Change, Outcome, done, refuse, onTable, made, withTables, pushed, popped, openedRow}
 use Rattle.definition.specs.Reader.{onlyNest, starts, startOf, endOf, Verdict, accept, reject, onDone, started, finished, handled}
-use Rattle.reached.proofs.Tables.{last-snoc, and-left, and-right}
+use Rattle.definition.proofs.Changes.{last-snoc}
+use Rattle.reached.proofs.Tables.{and-left, and-right}
 use Rattle.reached.proofs.Edits.{edits-size}
 use Rattle.reached.proofs.Stack.{holders}
 use Rattle.reached.proofs.Reached.{Reached, after, push-reached, pop-reached}

@@ -15,8 +15,9 @@ use Rattle.definition.specs.Shapes.{Shape, shapeAt, shapesIn, shapesByElement}
 use Rattle.definition.specs.Look.{Look}
 use Rattle.definition.specs.Change.{Put, _≔_, numbers, shape, add, Change, Outcome, also, adding, altering, nextId, addWordsFrom, addWords, openRegionRow, regionOver, nestedRegion, Closed, closedBy, onClosed, closing, shapeOf, nothing, editedBy, filledBy, putAll, putOne, wordsOf}
 use Rattle.definition.specs.Actions.{newEntry, Walk, meets, nowhere, noIf, walkFrom, walked, branch, startElse, elseIfBranch, startElseIf, startSend}
+use Rattle.definition.proofs.Changes.{edits-append}
 use Rattle.reached.proofs.Tables.{within, last-added}
-use Rattle.reached.proofs.Edits.{guarded, safeShape, safePut, safePuts, safeTexts, safeEdit, safeEdits, edits-append, fill-length}
+use Rattle.reached.proofs.Edits.{guarded, safeShape, safePut, safePuts, safeTexts, safeEdit, safeEdits, fill-length}
 use Rattle.reached.proofs.Stack as St
 use Rattle.reached.proofs.Stack.{holders, blocks, Place, under, branched, Live, LastSend, sent, leaf, Under, headOf, on-live, live-current, Closes, close-block}
 use Rattle.reached.proofs.Growth.{Fact, HasState, set-other}

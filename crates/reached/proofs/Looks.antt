@@ -8,15 +8,16 @@ use lib.Seq.{getD-set-same}
 use lib.Dec.{eqb, ltb}
 use borrow.Author.Tests.{eqb-true, ltb-true}
 use native.Mathlib.Omega.{arith}
-use Rattle.definition.specs.Text.{Piece, same}
+use Rattle.definition.specs.Text.{Piece}
 use Rattle.definition.specs.Elements.{Role, name, names, roleOf, isMasked, isName, among, namesState, tagOf}
 use Rattle.definition.specs.Event.{Event, kind}
-use Rattle.definition.specs.Rows.{Row, Table, num, blank, Cell, textAt, Numbers, Store, innermost, parentTag, lastOf}
+use Rattle.definition.specs.Rows.{Row, Table, num, blank, Cell, Numbers, Store, innermost, parentTag, lastOf}
 use Rattle.definition.specs.Look.{Load, Look, look, hasLoad, isGenerated, nameLoads, textLoads, valueLoads, loadsOf, ownName, wordNames, namesFrom, namesBrought, findName, enter, pieceCell, resolve, isNamed, isInnermost}
 use Rattle.definition.specs.Change.{onTable, stateRow, entered}
 use Rattle.definition.specs.States.{ownState}
+use Rattle.definition.proofs.Changes.{cell-length}
+use Rattle.definition.proofs.Finds.{find-le}
 use Rattle.reached.proofs.Tables.{AllRows, and-left}
-use Rattle.reached.proofs.Edits.{cell-length}
 use Rattle.reached.proofs.Stack.{Place}
 use Rattle.reached.proofs.Growth.{RootOf, HasState, Grows, fact-grows, solid-grows, states-grow, set-other}
 use Rattle.reached.proofs.Reached.{Reached, FactOf, tagsOf, root-back}
@@ -89,15 +90,6 @@ has-id g n e h k = go (hasLoad 1 (valueLoads (e .attributes))) refl
 
 -- ---- names resolved
 
-find-bound : (t : List ℕ) (cs : List Cell) (w : List ℕ) → findName t cs w ≤ length cs
-unfolding findName
-find-bound t [] w = omega arith
-find-bound t (c ∷ cs) w = go (same (textAt t c) w) (find-bound t cs w)
-  where
-    go : (b : Bool) → findName t cs w ≤ length cs → elim b [ true ↦ 0 | false ↦ suc (findName t cs w) ] ≤ suc (length cs)
-    go true h = omega arith
-    go false h = omega arith
-
 enter-bound : (cs : List Cell) (k : ℕ) (c : Cell) → k ≤ length cs → (suc k ≤ length (enter cs k c)) × (length cs ≤ length (enter cs k c))
 unfolding enter
 enter-bound cs k c h = go (ltb k (length cs)) refl
@@ -111,14 +103,14 @@ unfolding resolve
 resolve-grows t cs [] = omega arith
 resolve-grows t cs (p ∷ ps) =
     let k : ℕ = findName t cs (p .word) in
-    omega (arith, enter-bound cs k (pieceCell p) (find-bound t cs (p .word)) .1, resolve-grows t (enter cs k (pieceCell p)) ps)
+    omega (arith, enter-bound cs k (pieceCell p) (find-le t cs (p .word)) .1, resolve-grows t (enter cs k (pieceCell p)) ps)
 
 resolve-first : (t : List ℕ) (cs : List Cell) (ps : List Piece) → Filled ps → ¬ (getD (resolve t cs ps .refs) 0 0 ≡ 0) × (getD (resolve t cs ps .refs) 0 0 ≤ length (resolve t cs ps .known))
 unfolding resolve Filled
 resolve-first t cs [] h = absurd h
 resolve-first t cs (p ∷ ps) h =
     let k : ℕ = findName t cs (p .word) in
-    (omega arith, omega (arith, enter-bound cs k (pieceCell p) (find-bound t cs (p .word)) .0, resolve-grows t (enter cs k (pieceCell p)) ps))
+    (omega arith, omega (arith, enter-bound cs k (pieceCell p) (find-le t cs (p .word)) .0, resolve-grows t (enter cs k (pieceCell p)) ps))
 
 look-first : (s : Store) (e : Event) → namesState (tagOf (e .name)) ≡ true → eqb (e .kind) 3 ≡ false → ¬ (ownState (look s e) ≡ 0) × (ownState (look s e) ≤ length (look s e .known))
 unfolding look ownState

@@ -16,7 +16,8 @@ use Rattle.definition.specs.Look.{Look}
 use Rattle.definition.specs.Change.{_≔_, shape, alter, Change, Outcome, done, refuse, also, adding, altering, shapeOf, nothing, editedBy, filledBy, putAll, alterRow, has}
 use Rattle.definition.specs.Actions.{lastWith, lastEntry, lastInvoke, byParent, newParameter, ofLastSend, ofLastInvoke, ofDonedata, startParam, sendContent, contentOfSend, startContent}
 use Rattle.definition.specs.Reader.{onlyNest}
-use Rattle.reached.proofs.Tables.{set-view, both, within, last-altered, altered-row}
+use Rattle.definition.proofs.Base.{and-both}
+use Rattle.reached.proofs.Tables.{set-view, within, last-altered, altered-row}
 use Rattle.reached.proofs.Edits.{guarded, some?, safeShape, safePut, safePuts, safeTexts, safeEdit, Kept, kept-row}
 use Rattle.reached.proofs.Stack.{holders, outer, Place, under, LastSend, leaf, Under, under-moved, Sent, must-sent, not-regional}
 use Rattle.reached.proofs.Growth.{set-other}
@@ -73,7 +74,7 @@ one-in q = rw (eq-eqb q q refl, among)
 good-apart : (g q : ℕ) (n : Numbers) (l : Look) (R : Reached n) (c : Change) → among q outer ≡ true → within (q ∷ []) holders ≡ true → l .tag ≡ g → not (among g holders) ≡ true → parentTag n ≡ q → Step g (nothing n) c → Good g n l R c
 unfolding within among
 good-apart g q n l R c w v e o p S =
-    good-outer g (q ∷ []) n l R c e (subst (λ (x : ℕ). among x (q ∷ []) ≡ true) (sym p) (one-in q)) (both (among q outer) true w refl) v (not-regional g o) (safe-step g (nothing n) c S (none-safe g n)) (leaf-fact (n .tables) g _ _ o)
+    good-outer g (q ∷ []) n l R c e (subst (λ (x : ℕ). among x (q ∷ []) ≡ true) (sym p) (one-in q)) (and-both (among q outer) true w refl) v (not-regional g o) (safe-step g (nothing n) c S (none-safe g n)) (leaf-fact (n .tables) g _ _ o)
 
 -- ---- param
 

@@ -16,7 +16,8 @@ use Rattle.definition.specs.Look.{Look}
 use Rattle.definition.specs.Change.{Put, _≔_, numbers, shape, add, Change, done, also, adding, altering, drawn, drawId, drawDoc, nextId, nextDoc, inside, inTransition, addMembers, addWords, openRegionRow, regionOver, freshRegion, nestedRegion, closedBy, onClosed, closing, shapeOf, nothing, has, codeFor, wordsOf}
 use Rattle.definition.specs.Actions.{typeOf, joinState, newTransition, startTransition, startRegion, newEntry, entryOf, startLog, startAssign, rootScript, startScript, block}
 use Rattle.definition.specs.Reader.{onlyNest}
-use Rattle.reached.proofs.Tables.{both, within}
+use Rattle.definition.proofs.Base.{and-both}
+use Rattle.reached.proofs.Tables.{within}
 use Rattle.reached.proofs.Edits.{guarded, safeShape, safePut, safePuts, safeTexts, safeEdit, safeEdits, shapes-safe}
 use Rattle.reached.proofs.Stack as St
 use Rattle.reached.proofs.Stack.{holders, starters, blocks, inner, outer, under, starter, Live, here, leaf, Under, on-live, nonzero, live-current}
@@ -107,7 +108,7 @@ start-transition n l R A =
 
 block-safe : (g : ℕ) (ps qs : List Put) → safeEdits g (add (shape 0) 0 ps ∷ add (numbers 3) 0 qs ∷ []) ≡ true
 unfolding safeEdits safeEdit safeShape shapeOf safeTexts among
-block-safe g ps qs = both (safeShape (shapeAt g 0)) true (shapes-safe g 0) refl
+block-safe g ps qs = and-both (safeShape (shapeAt g 0)) true (shapes-safe g 0) refl
 
 good-block : (g k : ℕ) (ps : List ℕ) → within ps inner ≡ true → within ps holders ≡ true → among g blocks ≡ true → not (among g (8 ∷ 10 ∷ 11 ∷ 16 ∷ [])) ≡ true → (n : Numbers) (l : Look) (R : Reached n) → l .tag ≡ g
     → among (parentTag n) ps ≡ true → Fine (Good g n l R) (block g k n l)

@@ -12,11 +12,13 @@ use Rattle.definition.specs.Rows.{Table, blank, schema, noTables, empty, Store}
 use Rattle.definition.specs.Rules.{chartLimits, openLimits, tableLimits, allWithin, countersWithin, tablesKeep, namesDistinct, numbersFit, openNamesFit, openRegionsFit, isRowOrZero, keepsRules}
 use Rattle.definition.specs.declared.Position.{Position}
 use Rattle.definition.specs.Reader.{Reply, eventReply, Lent, counts, taken, storeOf, positionOf, lentAfter, allLong, longEnough, allAtMost, inOrder, start, Streamed, streamed, stream, Call, event, reading, Answer, refused, answerOf, answerTo, exists, rowRead, call, run, noRow, zeroTables, zeros}
+use Rattle.definition.proofs.Lending.{long-after, long-twelve, long-chart}
+use Rattle.definition.proofs.Base.{and-both}
 use Rattle.reached.specs.Statements.{NoneIsTwo}
-use Rattle.reached.proofs.Tables.{and-left, both}
+use Rattle.reached.proofs.Tables.{and-left}
 use Rattle.reached.proofs.Reached.{Reached}
 use Rattle.reached.proofs.Theorem.{Answered, event-ok, empty-reached}
-use Rattle.reached.proofs.Lent.{read-back, in-order, long-after, long-twelve, long-chart}
+use Rattle.reached.proofs.Lent.{read-back, in-order}
 
 -- ---- the empty chart keeps the rules
 
@@ -37,7 +39,7 @@ empty-fits L = empty-within (L .states ∷ L .transitions ∷ L .regions ∷ L .
 
 pub empty-keeps : (L : Limits) → keepsRules L empty ≡ true
 unfolding keepsRules empty noTables tablesKeep namesDistinct numbersFit openNamesFit openRegionsFit isRowOrZero schema
-empty-keeps L = rw (both (allWithin (tableLimits L) (empty .numbers .tables) && countersWithin L (empty .numbers)) true (both (allWithin (tableLimits L) (empty .numbers .tables)) _ (empty-fits L) (empty-counted L)) refl, keepsRules) refl
+empty-keeps L = rw (and-both (allWithin (tableLimits L) (empty .numbers .tables) && countersWithin L (empty .numbers)) true (and-both (allWithin (tableLimits L) (empty .numbers .tables)) _ (empty-fits L) (empty-counted L)) refl, keepsRules) refl
 
 -- ---- the first position
 
@@ -50,7 +52,7 @@ zero-at-most (suc k) (m ∷ ms) = rw (leb·zero m, allAtMost) (zero-at-most k ms
 
 start-at-most : (L : Limits) → allAtMost (counts start) (tableLimits L) && leb (start .used) (L .charge) ≡ true
 unfolding counts start tableLimits chartLimits openLimits allAtMost
-start-at-most L = both (allAtMost (counts start) (tableLimits L)) _ (zero-at-most 11 (L .states ∷ L .transitions ∷ L .regions ∷ L .entries ∷ L .invokes ∷ L .datums ∷ L .parameters ∷ L .members ∷ L .opened ∷ L .opened ∷ (L .opened + L .opened) ∷ [])) (leb·zero (L .charge))
+start-at-most L = and-both (allAtMost (counts start) (tableLimits L)) _ (zero-at-most 11 (L .states ∷ L .transitions ∷ L .regions ∷ L .entries ∷ L .invokes ∷ L .datums ∷ L .parameters ∷ L .members ∷ L .opened ∷ L .opened ∷ (L .opened + L .opened) ∷ [])) (leb·zero (L .charge))
 
 none-taken : (k : ℕ) (ts : List Table) → k ≤ length ts → taken (replicate k 0) ts ≡ replicate k []
 unfolding taken

@@ -13,7 +13,8 @@ use Rattle.definition.specs.Look.{Look}
 use Rattle.definition.specs.Change.{Put, _≔_, numbers, shape, Change, Outcome, refuse, adding, altering, drawn, drawId, drawDoc, nextId, nextDoc, inside, inState, addMember, addMembers, shapeOf, nothing, editedBy, has, codeFor}
 use Rattle.definition.specs.States.{ownState, otherStates, initialTransition, ownDoc, isChild, childOf, declared, startState, startParallel, startFinal, inHistory, startHistory, unlessInitial, initialOf, startInitial, valueShape, startData}
 use Rattle.definition.specs.Reader.{onlyNest}
-use Rattle.reached.proofs.Tables.{both, within}
+use Rattle.definition.proofs.Base.{and-both}
+use Rattle.reached.proofs.Tables.{within}
 use Rattle.reached.proofs.Edits.{guarded, safeShape, safePut, safePuts, safeTexts, safeEdit, safeEdits, shapes-safe}
 use Rattle.reached.proofs.Stack.{holders, outer, regional, idle, Idle, push-leaf}
 use Rattle.reached.proofs.Growth.{Fact, HasState}
@@ -161,7 +162,7 @@ start-data n l R A =
     fine-unless _ (currentState n) _ (h .0) (fine-if _ (eqb (l .found) (suc (length (getD (n .tables) 6 [])))) _ _ (
     good-leaf (adding (shape (valueShape l)) (0 ≔ currentState n ∷ []) (nothing n)) (step-shape 9 (valueShape l) (0 ≔ currentState n ∷ []) (nothing n))) (
     good-leaf (altering (shape (valueShape l)) (l .found) [] (nothing n)) (
-    step-altering 9 (shape (valueShape l)) (l .found) [] (nothing n) (unfold safeEdit safePuts shapeOf in both _ true (shapes-safe 9 (valueShape l)) refl))))
+    step-altering 9 (shape (valueShape l)) (l .found) [] (nothing n) (unfold safeEdit safePuts shapeOf in and-both _ true (shapes-safe 9 (valueShape l)) refl))))
   where
     good-leaf : (c : Change) → Step 9 (nothing n) c → Good 9 n l R c
     good-leaf c S = good-outer 9 (4 ∷ []) n l R c (A .tag) (A .allowed) refl refl refl (safe-step 9 (nothing n) c S refl) (leaf-fact (n .tables) 9 _ _ refl)

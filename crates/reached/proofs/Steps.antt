@@ -10,8 +10,10 @@ use Rattle.definition.specs.Rows.{Table, Numbers, currentState, parentTag}
 use Rattle.definition.specs.Look.{Look}
 use Rattle.definition.specs.Change.{Put, Which, numbers, shape, Edit, add, alter, Change, Outcome, done, refuse, also, adding, altering, drawn, addMember, addMembers, addWordsFrom, addWords, unlessZero, shapeOf, editedBy}
 use Rattle.definition.specs.States.{ownState}
-use Rattle.reached.proofs.Tables.{both, among-within, among-not, within}
-use Rattle.reached.proofs.Edits.{safeShape, safeTexts, safeEdit, safeEdits, safe-append, edits-append, shapes-safe}
+use Rattle.definition.proofs.Changes.{edits-append}
+use Rattle.definition.proofs.Base.{and-both}
+use Rattle.reached.proofs.Tables.{among-within, among-not, within}
+use Rattle.reached.proofs.Edits.{safeShape, safeTexts, safeEdit, safeEdits, safe-append, shapes-safe}
 use Rattle.reached.proofs.Stack.{holders, inner, outer, Place, Idle, Live, Bare, headOf, must-live, must-idle}
 use Rattle.reached.proofs.Growth.{RootOf, Fact, HasState, Grows, edits-grow, fact-grows}
 use Rattle.reached.proofs.Reached.{Reached, tagsOf, after, parent-is, inner-fact, root-back}
@@ -48,7 +50,7 @@ safe-step g c d S s = subst (λ (x : List Edit). safeEdits g x ≡ true) (sym (S
 
 pub one-safe : (g : ℕ) (e : Edit) → safeEdit g e ≡ true → safeEdits g (e ∷ []) ≡ true
 unfolding safeEdits
-one-safe g e s = both (safeEdit g e) true s refl
+one-safe g e s = and-both (safeEdit g e) true s refl
 
 pub step-also : (g : ℕ) (e : Edit) (c : Change) → safeEdit g e ≡ true → Step g c (also e c)
 unfolding also

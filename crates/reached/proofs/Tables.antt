@@ -12,6 +12,7 @@ use Rattle.definition.specs.Elements.{among}
 use Rattle.definition.specs.Rows.{Row, Table, num, lastOf}
 use Rattle.definition.specs.Change.{alterRow, withoutLast}
 use Rattle.definition.specs.Actions.{lastWith}
+use Rattle.definition.proofs.Changes.{last-snoc, without-snoc}
 
 -- ---- a set element
 
@@ -23,10 +24,6 @@ set-view P (y ∷ ys) (suc t) zero x d h p = p
 set-view P (y ∷ ys) (suc t) (suc k) x d h p = set-view P ys t k x d (λ e. h (ap suc e)) p
 
 -- ---- Booleans
-
-pub both : (a b : Bool) → a ≡ true → b ≡ true → a && b ≡ true
-both true b e f = f
-both false b e f = e
 
 pub not-both : (a : Bool) → a ≡ true → not a ≡ true → ⊥
 not-both true e f = false≢true f
@@ -64,17 +61,6 @@ pub among-not : (xs : List ℕ) (n m : ℕ) → not (among n xs) ≡ true → am
 among-not xs n m e f q = not-both (among n xs) (rw q f) e
 
 -- ---- the last of a list
-
-pub last-snoc : (d : Row) (rs : Table) (r : Row) → lastOf d (rs ++ r ∷ []) ≡ r
-unfolding lastOf
-last-snoc d [] r = refl
-last-snoc d (s ∷ rs) r = last-snoc s rs r
-
-pub without-snoc : (rs : Table) (r : Row) → withoutLast (rs ++ r ∷ []) ≡ rs
-unfolding withoutLast
-without-snoc [] r = refl
-without-snoc (s ∷ []) r = refl
-without-snoc (s ∷ t ∷ rs) r = ap {B = Table} (λ x. s ∷ x) (without-snoc (t ∷ rs) r)
 
 -- The innermost first.
 unfoldable pub topOf : Table → Row
@@ -134,13 +120,6 @@ last-altered c v i a (suc (suc j)) f (r ∷ rs) h =
     rw (lastWith-cons c v i a r (alterRow (suc j) f rs), lastWith-cons c v i a r rs) (last-altered c v (suc i) (lastNext (eqb (num r c) v) i a) (suc j) f rs h)
 
 -- ---- altered and added rows
-
-pub length-altered : (j : ℕ) (f : Row → Row) (rs : Table) → length (alterRow j f rs) ≡ length rs
-unfolding alterRow
-length-altered zero f rs = refl
-length-altered (suc j) f [] = refl
-length-altered (suc zero) f (r ∷ rs) = refl
-length-altered (suc (suc j)) f (r ∷ rs) = ap suc (length-altered (suc j) f rs)
 
 -- What f keeps of each row holds of the altered table's row.
 pub altered-row : (P : Row → Type 0) (j : ℕ) (f : Row → Row) (rs : Table) (i : ℕ) → ((r : Row) → P r → P (f r)) → P (getD rs i []) → P (getD (alterRow j f rs) i [])

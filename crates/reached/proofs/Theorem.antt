@@ -16,6 +16,7 @@ use Rattle.definition.specs.Look.{Look, look, textAfter}
 use Rattle.definition.specs.Change.{entered}
 use Rattle.definition.specs.Rules.{withinLimits}
 use Rattle.definition.specs.Reader.{isStart, Question, questions, firstNo, Verdict, accept, reject, handled, limited, decided, Reply, settled, replyTo, eventReply}
+use Rattle.definition.proofs.Base.{or-right}
 use Rattle.reached.specs.Statements.{NoInternalError}
 use Rattle.reached.specs.Fed.{fed}
 use Rattle.reached.proofs.Tables.{AllRows, and-left}
@@ -69,10 +70,6 @@ questions-not-two L n l = no-two (questions L n l) (omega arith, (omega arith, (
 
 -- ---- an event decided
 
-or-true : (a b : Bool) → a ≡ false → (a || b) ≡ true → b ≡ true
-or-true true b e f = absurd (false≢true (sym e))
-or-true false b e f = f
-
 or-first : (a b c : Bool) → a ≡ false → (a || b || c) ≡ true → (b || c) ≡ true
 or-first true b c e f = absurd (false≢true (sym e))
 or-first false b c e f = f
@@ -87,14 +84,14 @@ module _ (s : Store) (e : Event) (R : Reached (s .numbers)) (P : Passed (s .numb
   asked h =
       record {
         tag = refl;
-        allowed = rw (entered-parent (look s e) (s .numbers)) (or-true (not (isStart (look s e))) _ (starting h) (P .eight));
-        first = λ q. entered-root (look s e) (s .numbers) ∙ eqb-true _ 0 (or-true (not (eqb (look s e .tag) 1)) _ (rw (eq-eqb (look s e .tag) 1 q) refl) (or-first (not (isStart (look s e))) _ _ (starting h) (P .nine)));
+        allowed = rw (entered-parent (look s e) (s .numbers)) (or-right (not (isStart (look s e))) _ (starting h) (P .eight));
+        first = λ q. entered-root (look s e) (s .numbers) ∙ eqb-true _ 0 (or-right (not (eqb (look s e .tag) 1)) _ (rw (eq-eqb (look s e .tag) 1 q) refl) (or-first (not (isStart (look s e))) _ _ (starting h) (P .nine)));
         own = λ m. own-exists s e (R .solid .size) (ne-eqb (e .kind) 3 h) (subst (λ (x : ℕ). namesState x ≡ true) (look-tag s e) m);
       }
 
   ending-at : e .kind ≡ 3 → parentTag (entered (look s e) (s .numbers)) ≡ look s e .tag
   unfolding isStart
-  ending-at h = entered-parent (look s e) (s .numbers) ∙ look-innermost s e (or-true (isStart (look s e)) _ (rw (look-kind s e, h) refl) (P .five))
+  ending-at h = entered-parent (look s e) (s .numbers) ∙ look-innermost s e (or-right (isStart (look s e)) _ (rw (look-kind s e, h) refl) (P .five))
 
 limited-ok : (L : Limits) (v : Verdict) → VerdictOk v → VerdictOk (limited L v)
 unfolding limited VerdictOk

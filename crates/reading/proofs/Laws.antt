@@ -86,19 +86,6 @@ unfolding ownPlace
 own-some t zero f = let z : ⊥ = f refl in absurd z
 own-some t (suc k) f = refl
 
-pub own-below : (t : Table) (n : ℕ) → placeOfNumber t n ≤ length t
-unfolding placeOfNumber
-own-below [] n = omega arith
-own-below (r ∷ t) n = go (eqb (num r 0) n) refl (own-below t n)
-  where
-    bumped : (p m : ℕ) → p ≤ m → elim p [ zero ↦ 0 | suc q ↦ suc (suc q) ] ≤ suc m
-    bumped zero m h = omega arith
-    bumped (suc p) m h = omega arith
-
-    go : (b : Bool) → eqb (num r 0) n ≡ b → placeOfNumber t n ≤ length t → placeOfNumber (r ∷ t) n ≤ suc (length t)
-    go true g h = rw (g, placeOfNumber) (omega arith)
-    go false g h = rw (g, placeOfNumber) (bumped (placeOfNumber t n) (length t) h)
-
 -- ---- a row at a place
 
 pub at-none : (st : Table) (j k : ℕ) (r : Row) → k ≡ 0 → refusal 16 ≡ readAt st j k r

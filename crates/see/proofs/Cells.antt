@@ -2,7 +2,7 @@
 use Prim.Native.Nat.{ℕ, zero, suc}
 use mathlib.Core.Path.{_≡_, refl, sym, ap, ap₂, _∙_}
 use mathlib.Core.Bool.{Bool, true, false, not, _||_}
-use mathlib.Core.List.{[], _∷_, _++_}
+use mathlib.Core.List.{[], _∷_}
 use lib.ListN.{length, getD, take}
 use lib.Seq.{take-suc, take-length}
 use lib.Dec.{eqb, ltb}
@@ -10,6 +10,7 @@ use borrow.Author.Tests.{eq-eqb, ne-eqb, le-ltb}
 use native.Mathlib.Omega.{arith}
 use Rattle.definition.specs.Rows.{Row, Table, table, num, rowOf, lastOf, Numbers, tableOf}
 use Rattle.definition.specs.Actions.{lastWith, lastEntry, Walk, meets, noIf, elseWalk, walkFrom}
+use Rattle.definition.proofs.Changes.{last-snoc}
 use Rattle.plan.specs.declared.Closing.{Closing}
 use Rattle.plan.specs.declared.Walked.{Walked}
 use Rattle.plan.specs.Ids.{stateId, transitionId}
@@ -25,11 +26,6 @@ no-number (suc c) = refl
 pub no-row : (t : Table) (c : ℕ) → length t ≡ 0 → 0 ≡ num (getD t 0 []) c
 no-row [] c e = sym (no-number c)
 no-row (r ∷ t) c e = absurd (omega arith)
-
-last-snoc : (d : Row) (xs : Table) (r : Row) → lastOf d (xs ++ r ∷ []) ≡ r
-unfolding lastOf
-last-snoc d [] r = refl
-last-snoc d (x ∷ xs) r = last-snoc x xs r
 
 none-inside : (t : Table) (c : ℕ) → length t ≡ 0 → 0 ≡ num (lastOf [] t) c
 unfolding lastOf

@@ -10,7 +10,7 @@ use borrow.Author.Tests.{eq-eqb, ne-eqb}
 use native.Mathlib.Omega.{arith}
 use Rattle.definition.specs.Elements.{among}
 use Rattle.definition.specs.Rows.{Row, Table, num, rowOf, sameList, listed, valuesOf}
-use Rattle.definition.specs.Actions.{lastWith, placeOfNumber}
+use Rattle.definition.specs.Actions.{lastWith}
 pub use Rattle.definition.proofs.Base.{test as by}
 use Rattle.plan.specs.Ids.{regionId}
 use Rattle.plan.specs.Seen.{closedAt, firstChildOr}
@@ -74,16 +74,6 @@ first-later t d s i h e =
 pub first-none : (t : Table) (d s i : ℕ) → length t ≤ i → d ≡ firstChildOr d s (drop i t)
 unfolding firstChildOr
 first-none t d s i h = sym (ap (firstChildOr d s) (no-row t i h))
-
-pub place-le : (t : Table) (i : ℕ) → placeOfNumber t i ≤ length t
-unfolding placeOfNumber
-place-le [] i = omega arith
-place-le (r ∷ rs) i = go (eqb (num r 0) i) (placeOfNumber rs i) (place-le rs i)
-  where
-    go : (b : Bool) (p : ℕ) → p ≤ length rs → elim b [ true ↦ 1 | false ↦ elim p [ zero ↦ 0 | suc q ↦ suc (suc q) ] ] ≤ suc (length rs)
-    go true p h = omega arith
-    go false zero h = omega arith
-    go false (suc p) h = omega arith
 
 -- ---- children
 

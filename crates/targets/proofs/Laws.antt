@@ -14,11 +14,12 @@ use Rattle.definition.specs.Rows.{Row, Table, Cell, table, cellAt, withCell, bl
 use Rattle.definition.specs.Look.{findName, nameCells, pieceCell, enter, Resolved, resolve}
 use Rattle.definition.specs.Change.{stateRow}
 use Rattle.definition.specs.Reader.{over}
+use Rattle.definition.proofs.Finds.{cells-length}
 use Rattle.words.specs.declared.Word.{Word}
 use Rattle.words.specs.Next.{nextWord, moved}
 use Rattle.words.proofs.Laws.{by, pieces-moved}
 use Rattle.names.specs.Names.{wordsFrom}
-use Rattle.names.proofs.Laws.{cells-length, words-next, words-none, words-end, word-lies}
+use Rattle.names.proofs.Laws.{words-next, words-none, words-end, word-lies}
 use Rattle.targets.specs.Enter.{placedRow, countAfter, enterRow, enterAll, memberRow}
 
 -- ---- rows

@@ -13,13 +13,13 @@ use Rattle.definition.specs.Rows.{Table, Cell}
 use Rattle.definition.specs.Look.{findName, nameCells, pieceCell, enter, resolve}
 use Rattle.definition.specs.Rules.{namesLead}
 use Rattle.definition.specs.Reader.{over}
-use Rattle.definition.proofs.Finds.{find-le}
+use Rattle.definition.proofs.Finds.{find-le, cells-length}
 use Rattle.words.specs.declared.Word.{Word}
 use Rattle.words.specs.Next.{nextWord, moved}
 use Rattle.words.proofs.Laws.{pieces-moved}
 use Rattle.text.proofs.Laws.{part-at}
 use Rattle.names.specs.Names.{wordsFrom}
-use Rattle.names.proofs.Laws.{cells-length, words-next, words-none, words-end, word-lies}
+use Rattle.names.proofs.Laws.{words-next, words-none, words-end, word-lies}
 use Rattle.targets.specs.Enter.{placedRow, countAfter, enterRow, enterAll, memberRow, namesAt, Room, Entered}
 use Rattle.targets.proofs.Laws.{Partly, partly-start, partly-put, partly-took, partly-end, partly-length, cells-enter, all-grows, enter-size, enter-partly}
 use Rattle.targets.proofs.ApartLaws.{apart-entered}

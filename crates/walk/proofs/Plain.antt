@@ -14,7 +14,8 @@ use Rattle.definition.specs.Event.{legible, unescapeFrom, prepend, ifAllowed}
 use Rattle.lines.specs.declared.Scan.{Scan}
 use Rattle.lines.specs.Escapes.{scanned, counted}
 use Rattle.walk.specs.Walk.{fits, AsWritten}
-use Rattle.definition.proofs.Base.{true-is-false, none-is-some, some-inj, and-left, and-right, bool-ext, same-refl, same-eq}
+use Rattle.definition.proofs.Base.{true-is-false, none-is-some, some-inj, and-left, and-right, bool-ext, same-refl, same-eq, not-of}
+use Rattle.definition.proofs.EventLength.{allowed-same}
 
 unfoldable isPlain : ℕ → Bool
 isPlain b = isAllowed b && not (eqb b 92) && not (eqb b 10)
@@ -52,10 +53,6 @@ record Plain (b : ℕ) (bs : List ℕ) : Type 0 where
   no-newline : eqb b 10 ≡ false
   rest : allPlain bs ≡ true
 
-not-is : (p : Bool) → not p ≡ true → p ≡ false
-not-is true e = sym e
-not-is false e = refl
-
 plain-head : (b : ℕ) (bs : List ℕ) → allPlain (b ∷ bs) ≡ true → Plain b bs
 unfolding allPlain isPlain
 plain-head b bs e = go (isPlain b) refl
@@ -65,8 +62,8 @@ plain-head b bs e = go (isPlain b) refl
         let x : (isAllowed b && not (eqb b 92)) ≡ true = and-left (isAllowed b && not (eqb b 92)) (not (eqb b 10)) q in
         record {
           allowed = and-left (isAllowed b) (not (eqb b 92)) x;
-          no-backslash = not-is (eqb b 92) (and-right (isAllowed b) (not (eqb b 92)) x);
-          no-newline = not-is (eqb b 10) (and-right (isAllowed b && not (eqb b 92)) (not (eqb b 10)) q);
+          no-backslash = not-of (eqb b 92) (and-right (isAllowed b) (not (eqb b 92)) x);
+          no-newline = not-of (eqb b 10) (and-right (isAllowed b && not (eqb b 92)) (not (eqb b 10)) q);
           rest = rw (q, allPlain) at e;
         }
     go false q = true-is-false (sym (rw (q, allPlain) at e))
@@ -125,22 +122,13 @@ written-plain w (b ∷ bs) p e = go (eqb b 92) refl (λ x. written-plain x bs)
         let y : Plain b (z .0) = plain-head b (z .0) (subst (λ (x : List ℕ). allPlain x ≡ true) (sym (z .2)) p) in
         ap (λ (x : List ℕ). b ∷ x) (ih (z .0) (y .rest) (z .1)) ∙ z .2
 
-unallowed : (o : Option (List ℕ)) (x : List ℕ) → ifAllowed o ≡ some x → o ≡ some x
-unfolding ifAllowed
-unallowed none x e = e
-unallowed (some v) x e = go (allAllowed v) refl
-  where
-    go : (p : Bool) → allAllowed v ≡ p → some v ≡ some x
-    go true q = rw (q, ifAllowed) at e
-    go false q = none-is-some x (rw (q, ifAllowed) at e)
-
 module _ (v x : List ℕ) (e : legible v ≡ some x) where
   same-plain : (w : List ℕ) → allPlain w ≡ true → same w v ≡ same w x
   unfolding legible
   same-plain w p =
       bool-ext (same w v) (same w x)
       (λ f. let z : w ≡ v = same-eq w v f in let y : w ≡ x = some-inj [] w x (sym (legible-plain w p) ∙ ap legible z ∙ e) in subst (λ (y : List ℕ). same w y ≡ true) y (same-refl w))
-      (λ f. let z : w ≡ x = same-eq w x f in let y : v ≡ w = written-plain w v p (unallowed (unescapeFrom false v) w (e ∙ ap (λ (y : List ℕ). some y) (sym z))) in subst (λ (y : List ℕ). same w y ≡ true) (sym y) (same-refl w))
+      (λ f. let z : w ≡ x = same-eq w x f in let y : v ≡ w = written-plain w v p (allowed-same (unescapeFrom false v) w (e ∙ ap (λ (y : List ℕ). some y) (sym z))) in subst (λ (y : List ℕ). same w y ≡ true) (sym y) (same-refl w))
 
   place-plain : (ns : List (List ℕ)) → eachBrief ns ≡ true → placeIn ns v ≡ placeIn ns x
   unfolding placeIn eachBrief

@@ -30,10 +30,11 @@ use Rattle.whole.specs.After.{openedBy, positionBy, InRange}
 use Rattle.fill.specs.Fill.{isWords}
 use Rattle.texts.proofs.LookLaw.{fields-placed}
 use Rattle.apply.specs.Applied.{rowsOf, appliedIn}
-use Rattle.plan.proofs.Fifteen.{alter-length}
 use Rattle.apply.proofs.Wordless.{Quiet, wordless}
 use Rattle.definition.specs.Reader.{positionOf, rowsIn}
 use Rattle.definition.specs.Look.{oneIf}
+use Rattle.definition.proofs.Changes.{alter-length}
+use Rattle.definition.proofs.Finds.{refs-length}
 use Rattle.payload.proofs.PayloadLaw.{made-law}
 use Rattle.plan.proofs.Fifteen.{transitions-count, regions-count, entries-count, invokes-count, datums-count, parameters-count}
 use Rattle.plan.specs.After.{transitionsAfter, regionsAfter, entriesAfter, invokesAfter, datumsAfter, parametersAfter}
@@ -57,7 +58,6 @@ use Rattle.plan.specs.Heard.{heard}
 use Rattle.plan.specs.Plans.{planBy}
 use Rattle.plan.specs.After.{memberAfter}
 use Rattle.plan.proofs.Fifteen.{all-members, added-length}
-use Rattle.names.proofs.NewLaw.{refs-length}
 use Rattle.fill.specs.Fill.{textsOf}
 use Rattle.wordlists.specs.Words.{setAll}
 use Rattle.tables.proofs.Clean.{members-size, over-take, over-over}

@@ -1,4 +1,4 @@
-use Rattle.columns.proofs.Columns.{all, columns-all, and-true, spares-all}
+use Rattle.columns.proofs.Columns.{all, columns-all, spares-all}
 use native.Mathlib.Omega.{arith}
 use mathlib.Core.List.{[], _∷_}
 use mathlib.Core.Path.{refl}
@@ -6,6 +6,7 @@ use lib.Dec.{leb·zero}
 use Rattle.definition.specs.Elements.{among}
 use Rattle.definition.specs.Rules.{keeps, chosen, isRow, isRowOrZero, hasOwnNumber, following}
 use Rattle.definition.specs.Rows.{memberColumns, num}
+use Rattle.definition.proofs.Base.{and-true}
 use borrow.Author.Needs.{needs}
 use Rattle.rules.proofs.member_keeps.Statement.{statement}
 use Rattle.rules.proofs.member_keeps.Tie as tie

@@ -1,5 +1,5 @@
-use Rattle.see.proofs.Scans.{place-le}
 use Rattle.definition.specs.Actions.{placeOfNumber}
+use Rattle.definition.proofs.Changes.{place-le}
 use Rattle.see.specs.Masked.{numberIf, isStart}
 use Rattle.see.proofs.Cells.{start-told}
 use mathlib.Core.Bool.{Bool, _&&_, not}
