@@ -14,6 +14,7 @@ use crate::executable_content::{
 use crate::fsm::{
     BindingType, CommonContent, DoneData, HistoryType, Invoke, Parameter, State, Transition, TransitionType, ID_COUNTER,
 };
+use crate::lack::Lack;
 use std::sync::atomic::Ordering;
 
 /// No stream of bytes up to 127 holds this; it tells absent from present in the texts that have defaults.
@@ -50,6 +51,29 @@ impl Run {
                 self.reader.start_element(&mut place, &start, true);
             }
             Kind::End => self.reader.end_element(&event.name),
+        }
+    }
+
+    /// The handlers' state made such as no event leaves it.
+    pub fn lack(&mut self, lack: Lack) {
+        let reader = &mut self.reader;
+        match lack {
+            Lack::Nothing => {}
+            Lack::State => reader.current.current_state = 0,
+            Lack::Transition => reader.current.current_transition = 0,
+            Lack::Region => {
+                reader.current_executable_content = 0;
+                reader.executable_content_stack.clear();
+            }
+            Lack::OuterRegion => reader.executable_content_stack = vec![(0, "foreach")],
+            Lack::Root => reader.fsm.pseudo_root = 0,
+            Lack::Entry => {
+                let region = reader.fsm.executableContent.get_mut(&reader.current_executable_content);
+                region.expect("a current region").pop().expect("an entry");
+            }
+            Lack::Invokes => reader.get_current_state().invoke = State::new("").invoke,
+            Lack::Donedata => reader.get_current_state().donedata = None,
+            Lack::Leftover => reader.executable_content_stack.push((reader.current_executable_content, "if")),
         }
     }
 

@@ -63,9 +63,14 @@ pub fn source_hashes() -> Vec<(&'static str, &'static str)> {
 mod run {
     use super::{Absent, Verdict};
     use crate::event::Event;
+    use crate::lack::Lack;
 
     /// No reference, no judge.
     pub fn judge(_stream: &[u8]) -> Result<Verdict, Absent> {
+        Err(Absent)
+    }
+
+    pub fn without(_before: &[Event], _lack: Lack, _event: &Event) -> Result<Result<(), String>, Absent> {
         Err(Absent)
     }
 
@@ -82,6 +87,7 @@ mod run {
 mod run {
     use super::{admit, Absent, Verdict};
     use crate::event::{split, Event};
+    use crate::lack::Lack;
     use crate::scxml_reader::driver::Run;
     use std::any::Any;
     use std::cell::Cell;
@@ -144,6 +150,17 @@ mod run {
         Ok(Verdict::Accepted(Box::new(run.chart())))
     }
 
+    /// One event after others that are taken and something then taken away: the reason where the handlers panic.
+    pub fn without(before: &[Event], lack: Lack, event: &Event) -> Result<Result<(), String>, Absent> {
+        let _alone = alone();
+        let mut run = Run::new();
+        for event in before {
+            step(&mut run, event).expect("an event that is taken");
+        }
+        run.lack(lack);
+        Ok(step(&mut run, event))
+    }
+
     /// Nanoseconds to build the chart, without and with freeing it, for each round.
     pub fn build_times(events: &[Event], rounds: usize) -> Result<Vec<[u128; 2]>, Absent> {
         let _alone = alone();
@@ -163,7 +180,7 @@ mod run {
     }
 }
 
-pub use run::{available, build_times, judge};
+pub use run::{available, build_times, judge, without};
 
 /// For tests: false when there is no reference to ask, with a line that the test harness does not swallow.
 pub fn is_there(test: &str) -> bool {
