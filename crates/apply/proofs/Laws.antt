@@ -22,11 +22,6 @@ opens-here (suc m) n t r h = absurd (omega arith)
 pub opens-out : (m n : ℕ) (t : Table) (r : Row) → m ≡ 0 → length t ≤ n → t ≡ openRowIn m n t r
 opens-out m n t r h l = sym (set-out t n r l) ∙ opens-here m n t r h
 
-pub opens-none : (m n : ℕ) (t : Table) (r : Row) → (m ≡ 0 → ⊥) → t ≡ openRowIn m n t r
-unfolding openRowIn
-opens-none zero n t r h = absurd (h refl)
-opens-none (suc m) n t r h = refl
-
 pub joined : (a a′ b b′ c c′ d d′ e e′ f f′ g g′ h h′ i i′ j j′ k k′ l l′ : Table) → a ≡ a′ → b ≡ b′ → c ≡ c′ → d ≡ d′ → e ≡ e′ → f ≡ f′ → g ≡ g′ → h ≡ h′ → i ≡ i′ → j ≡ j′ → k ≡ k′ → l ≡ l′
     → tablesOf a b c d e f g h i j k l ≡ tablesOf a′ b′ c′ d′ e′ f′ g′ h′ i′ j′ k′ l′
 joined a a′ b b′ c c′ d d′ e e′ f f′ g g′ h h′ i i′ j j′ k k′ l l′ ea eb ec ed ee ef eg eh ei ej ek el = λ x. ea x ∷ eb x ∷ ec x ∷ ed x ∷ ee x ∷ ef x ∷ eg x ∷ eh x ∷ ei x ∷ ej x ∷ ek x ∷ el x ∷ []

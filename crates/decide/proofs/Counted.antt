@@ -2,7 +2,7 @@
 use Prim.Native.Nat.{ℕ, _+_, _≤_}
 use mathlib.Core.Path.{_≡_, refl, sym, ap, _∙_}
 use mathlib.Core.Bool.{Bool, true, false, _&&_}
-use mathlib.Core.List.{List, [], _∷_}
+use mathlib.Core.List.{[], _∷_}
 use lib.ListN.{length, drop, length-drop}
 use lib.Dec.{leb}
 use borrow.Author.Tests.{le-leb}
@@ -12,6 +12,7 @@ use Rattle.definition.specs.Look.{Look, oneIf}
 use Rattle.definition.specs.Rules.{chartLimits}
 use Rattle.definition.specs.Reader.{allAtMost, rowsIn, positionOf}
 use Rattle.definition.proofs.Base.{and-true}
+use Rattle.definition.proofs.Lending.{most-cons}
 use Rattle.plan.specs.declared.Plan.{Plan}
 use Rattle.plan.specs.declared.MembersPlan.{MembersPlan}
 use Rattle.plan.specs.Decided.{oneUnless, membersAdded, countsAfter, staysWithin}
@@ -20,13 +21,6 @@ use Rattle.decide.specs.Within.{membersMore, rowsWithin, drawnWithin, wi
 members-counted : (l : Look) (m : MembersPlan) → membersMore m (length (l .refs)) ≡ membersAdded l m
 unfolding membersMore membersAdded
 members-counted l m = rw (length-drop (m .skip) (l .refs))
-
-at-most : (k m : ℕ) (ks ms : List ℕ) → allAtMost (k ∷ ks) (m ∷ ms) ≡ leb k m && allAtMost ks ms
-unfolding allAtMost
-at-most k m ks ms = go (leb k m) where
-  go : (b : Bool) → elim b [ true ↦ allAtMost ks ms | false ↦ false ] ≡ b && allAtMost ks ms
-  go true = refl
-  go false = refl
 
 flat3 : (a b c : Bool) → a && (b && c) ≡ a && b && c
 flat3 true b c = refl
@@ -64,19 +58,19 @@ eight : (k₁ k₂ k₃ k₄ k₅ k₆ k₇ k₈ m₁ m₂ m₃ m₄ m₅ m₆ m
     → allAtMost (k₁ ∷ k₂ ∷ k₃ ∷ k₄ ∷ k₅ ∷ k₆ ∷ k₇ ∷ k₈ ∷ []) (m₁ ∷ m₂ ∷ m₃ ∷ m₄ ∷ m₅ ∷ m₆ ∷ m₇ ∷ m₈ ∷ [])
     ≡ leb k₁ m₁ && leb k₂ m₂ && leb k₃ m₃ && leb k₄ m₄ && leb k₅ m₅ && leb k₆ m₆ && leb k₇ m₇ && leb k₈ m₈
 eight k₁ k₂ k₃ k₄ k₅ k₆ k₇ k₈ m₁ m₂ m₃ m₄ m₅ m₆ m₇ m₈ =
-    at-most k₁ m₁ _ _ ∙ ap (λ (x : Bool). leb k₁ m₁ && x) (
-    at-most k₂ m₂ _ _ ∙ ap (λ (x : Bool). leb k₂ m₂ && x) (
-    at-most k₃ m₃ _ _ ∙ ap (λ (x : Bool). leb k₃ m₃ && x) (
-    at-most k₄ m₄ _ _ ∙ ap (λ (x : Bool). leb k₄ m₄ && x) (
-    at-most k₅ m₅ _ _ ∙ ap (λ (x : Bool). leb k₅ m₅ && x) (
-    at-most k₆ m₆ _ _ ∙ ap (λ (x : Bool). leb k₆ m₆ && x) (
-    at-most k₇ m₇ _ _ ∙ ap (λ (x : Bool). leb k₇ m₇ && x) (at-most k₈ m₈ [] [] ∙ last (leb k₈ m₈))))))))
+    most-cons k₁ m₁ _ _ ∙ ap (λ (x : Bool). leb k₁ m₁ && x) (
+    most-cons k₂ m₂ _ _ ∙ ap (λ (x : Bool). leb k₂ m₂ && x) (
+    most-cons k₃ m₃ _ _ ∙ ap (λ (x : Bool). leb k₃ m₃ && x) (
+    most-cons k₄ m₄ _ _ ∙ ap (λ (x : Bool). leb k₄ m₄ && x) (
+    most-cons k₅ m₅ _ _ ∙ ap (λ (x : Bool). leb k₅ m₅ && x) (
+    most-cons k₆ m₆ _ _ ∙ ap (λ (x : Bool). leb k₆ m₆ && x) (
+    most-cons k₇ m₇ _ _ ∙ ap (λ (x : Bool). leb k₇ m₇ && x) (most-cons k₈ m₈ [] [] ∙ last (leb k₈ m₈))))))))
     ∙ flat8 (leb k₁ m₁) (leb k₂ m₂) (leb k₃ m₃) (leb k₄ m₄) (leb k₅ m₅) (leb k₆ m₆) (leb k₇ m₇) (leb k₈ m₈)
 
 nine : (k₀ k₁ k₂ k₃ k₄ k₅ k₆ k₇ k₈ m₁ m₂ m₃ m₄ m₅ m₆ m₇ m₈ : ℕ) → k₀ ≤ 1
     → leb k₁ m₁ && leb k₂ m₂ && leb k₃ m₃ && leb k₄ m₄ && leb k₅ m₅ && leb k₆ m₆ && leb k₇ m₇ && leb k₈ m₈
     ≡ allAtMost (k₀ ∷ k₁ ∷ k₂ ∷ k₃ ∷ k₄ ∷ k₅ ∷ k₆ ∷ k₇ ∷ k₈ ∷ []) (1 ∷ m₁ ∷ m₂ ∷ m₃ ∷ m₄ ∷ m₅ ∷ m₆ ∷ m₇ ∷ m₈ ∷ [])
-nine k₀ k₁ k₂ k₃ k₄ k₅ k₆ k₇ k₈ m₁ m₂ m₃ m₄ m₅ m₆ m₇ m₈ h = sym (at-most k₀ 1 _ _ ∙ (first (leb k₀ 1) _ (le-leb k₀ 1 h) ∙ eight k₁ k₂ k₃ k₄ k₅ k₆ k₇ k₈ m₁ m₂ m₃ m₄ m₅ m₆ m₇ m₈))
+nine k₀ k₁ k₂ k₃ k₄ k₅ k₆ k₇ k₈ m₁ m₂ m₃ m₄ m₅ m₆ m₇ m₈ h = sym (most-cons k₀ 1 _ _ ∙ (first (leb k₀ 1) _ (le-leb k₀ 1 h) ∙ eight k₁ k₂ k₃ k₄ k₅ k₆ k₇ k₈ m₁ m₂ m₃ m₄ m₅ m₆ m₇ m₈))
 
 -- The count is what the plan's question 15 asks, of a store and a look.
 pub counted : (L : Limits) (s : Store) (l : Look) (made : Bool) (p : Plan) → length (tableOf (s .numbers) (table .chart)) ≤ 1 → oneIf made ≡ l .generated

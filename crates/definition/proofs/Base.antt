@@ -1,5 +1,5 @@
 -- Small facts that several proofs use.
-use Prim.Native.Nat.{ℕ, zero, suc, _≤_}
+use Prim.Native.Nat.{ℕ, zero, suc, _≤_, _<_}
 use mathlib.Core.Path.{_≡_, refl, sym, ap, ap₂, _∙_, subst}
 use mathlib.Core.Bool.{Bool, true, false, _&&_, _||_, not, cond}
 use mathlib.Core.Option.{Option, none, some}
@@ -166,12 +166,16 @@ getD-set P (y ∷ ys) d zero x h p (suc i) = h (suc i)
 getD-set P (y ∷ ys) d (suc k) x h p zero = h zero
 getD-set P (y ∷ ys) d (suc k) x h p (suc i) = getD-set (λ j. P (suc j)) ys d k x (λ j. h (suc j)) p i
 
-pub getD-append : {A : Type 0} (P : A → Type 0) (xs ys : List A) (d : A) → ((i : ℕ) → P (getD xs i d)) → ((i : ℕ) → P (getD ys i d)) → (i : ℕ) → P (getD (xs ++ ys) i d)
-getD-append P [] ys d h k i = k i
-getD-append P (x ∷ xs) ys d h k zero = h zero
-getD-append P (x ∷ xs) ys d h k (suc i) = getD-append P xs ys d (λ j. h (suc j)) k i
+-- ---- a name's place and its number
 
--- ---- a name's number is at most how many names there are
+pub place-true : (ns : List (List ℕ)) (w : List ℕ) → placeIn ns w < length ns → same (getD ns (placeIn ns w) []) w ≡ true
+unfolding placeIn
+place-true [] w h = absurd (omega arith)
+place-true (n ∷ ns) w h = go (same n w) refl (place-true ns w) h
+  where
+    go : (b : Bool) → same n w ≡ b → (placeIn ns w < length ns → same (getD ns (placeIn ns w) []) w ≡ true) → _<_ (elim b [ true ↦ 0 | false ↦ suc (placeIn ns w) ]) (suc (length ns)) → same (getD (n ∷ ns) (elim b [ true ↦ 0 | false ↦ suc (placeIn ns w) ]) []) w ≡ true
+    go true e ih h = e
+    go false e ih h = ih (omega (arith, h))
 
 pub number-small : (ns : List (List ℕ)) (w : List ℕ) → numberIn ns w ≤ length ns
 unfolding numberIn

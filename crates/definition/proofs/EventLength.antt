@@ -8,9 +8,10 @@ use lib.ListN.{length, length-append}
 use lib.Dec.{eqb, leb, leb→le}
 use native.Mathlib.Omega.{arith}
 use Rattle.definition.specs.Limits.{limits01}
-use Rattle.definition.specs.Text.{str, same, allAllowed, placeIn}
-use Rattle.definition.specs.Event.{Line, event, name, key, value, text, junk, after, headed, lineOf, linesFrom, tailFrom, isNil, linesOf, unescapeFrom, prepend, ifAllowed, legible, Attribute, Event, Body, withPair, lastText, bodyOf, eventWith, namedEvent, eventOfLines, kindNames, readEvent, between, attributesFit, textFits, kindFits, inForm}
+use Rattle.definition.specs.Text.{str, same, placeIn}
+use Rattle.definition.specs.Event.{Line, event, name, key, value, text, junk, after, headed, lineOf, linesFrom, tailFrom, isNil, linesOf, unescapeFrom, prepend, legible, Attribute, Event, Body, withPair, lastText, bodyOf, namedEvent, eventOfLines, kindNames, readEvent, between, attributesFit, textFits, kindFits, inForm}
 use Rattle.definition.proofs.Base.{and-left, and-right, T-of, none-is-some, some-inj, true-is-false, same-eq}
+use Rattle.definition.proofs.Events.{allowed-same, with-split}
 
 -- ---- an escaped text is at most twice as long
 
@@ -46,15 +47,6 @@ unescaped-le (b ∷ bs) true x e = go (eqb b 110) (eqb b 92) refl refl (λ d y f
         let z = prepended 92 (unescapeFrom false bs) x (rw (q, unescapeFrom, s, unescapeFrom) at e) in
         omega (arith, ih false (z .0) (z .1), z .2)
     go false false q s ih = none-is-some x (rw (q, unescapeFrom, s, unescapeFrom) at e)
-
-pub allowed-same : (o : Option (List ℕ)) (x : List ℕ) → ifAllowed o ≡ some x → o ≡ some x
-unfolding ifAllowed
-allowed-same none x e = none-is-some x e
-allowed-same (some v) x e = go (allAllowed v) refl
-  where
-    go : (p : Bool) → allAllowed v ≡ p → some v ≡ some x
-    go true q = rw (q, ifAllowed) at e
-    go false q = none-is-some x (rw (q, ifAllowed) at e)
 
 legible-le : (v x : List ℕ) → legible v ≡ some x → length v ≤ length x + length x
 unfolding legible
@@ -240,13 +232,6 @@ kind-le k e f = go (same (str "open") k) (same (str "empty") k) (same (str "whol
     go false false false false p q r s = true-is-false (sym (rw (p, placeIn, q, placeIn, r, placeIn, s, placeIn) at f))
 
 -- ---- the event
-
-with-split : (k : ℕ) (n : Option (List ℕ)) (o : Option Body) (e : Event) → eventWith k n o ≡ some e
-    → (x : List ℕ) × (b : Body) × (n ≡ some x) × (o ≡ some b) × (record { kind = k; name = x; attributes = b .attributes; text = b .text } ≡ e)
-unfolding eventWith
-with-split k none o e q = none-is-some e q
-with-split k (some x) none e q = none-is-some e q
-with-split k (some x) (some b) e q = (x, b, refl, refl, some-inj e _ e q)
 
 record Within (w : Event) : Type 0 where
   kind : kindFits (w .kind) w ≡ true

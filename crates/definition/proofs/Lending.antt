@@ -1,7 +1,7 @@
 -- What is written over lent slices is read back, and slices stay long enough.
 use Prim.Native.Nat.{ℕ, zero, suc, _+_, _≤_}
 use mathlib.Core.Path.{_≡_, refl, sym, ap, _∙_}
-use mathlib.Core.Bool.{Bool, true, false, _||_, not}
+use mathlib.Core.Bool.{Bool, true, false, _&&_, _||_, not}
 use mathlib.Core.List.{List, [], _∷_, _++_}
 use lib.ListN.{length, getD, take, drop, length-append, length-drop, drop-of-length-le}
 use lib.Seq.{take-append-seam, drop-cons}
@@ -9,10 +9,11 @@ use lib.Dec.{eqb, leb}
 use borrow.Author.Tests.{leb-true, le-leb}
 use native.Mathlib.Omega.{arith}
 use Rattle.definition.specs.declared.Limits.{Limits}
-use Rattle.definition.specs.Rows.{Table, num, Store}
+use Rattle.definition.specs.declared.Position.{Position}
+use Rattle.definition.specs.Rows.{Table, num, tableOf, Store}
 use Rattle.definition.specs.Rules.{chartLimits, openLimits, tableLimits, allWithin, openNamesFit, unknownFits}
 use Rattle.definition.specs.Reader.{Lent, counts, taken, storeOf, rowsIn, positionOf, over, overAll, lentAfter, allLong, longEnough, allAtMost}
-use Rattle.definition.proofs.Base.{true-is-false, and-left, and-right, and-both}
+use Rattle.definition.proofs.Base.{true-is-false, elim-and, and-left, and-right, and-both}
 
 -- ---- a list by its elements
 
@@ -143,3 +144,17 @@ one-chart L u us e = go (leb (length u) 1) refl
 pub chart-one : (L : Limits) (us : List Table) → allWithin (tableLimits L) us ≡ true → 1 ≤ length (getD us 0 []) → length (getD us 0 []) ≡ 1
 chart-one L [] e h = absurd (omega arith)
 chart-one L (u ∷ us) e h = omega (arith, one-chart L u us e)
+
+pub most-cons : (k m : ℕ) (ks ms : List ℕ) → allAtMost (k ∷ ks) (m ∷ ms) ≡ leb k m && allAtMost ks ms
+unfolding allAtMost
+most-cons k m ks ms = elim-and (leb k m) (allAtMost ks ms)
+
+-- The chart's own row.
+pub chart-there : (L : Limits) (x : Lent) (p : Position) → longEnough L x ≡ true → 1 ≤ length (tableOf (storeOf x p .numbers) 0)
+unfolding longEnough allLong tableLimits chartLimits storeOf taken counts
+chart-there L x p h = go (x .tables) (and-left (allLong (tableLimits L) (x .tables)) (leb (L .charge) (length (x .text))) h)
+  where
+    go : (ts : List Table) → allLong (tableLimits L) ts ≡ true → 1 ≤ length (getD (taken (counts p) ts) 0 [])
+    go [] e = true-is-false (sym e)
+    go ([] ∷ ts) e = true-is-false (sym e)
+    go ((r ∷ t) ∷ ts) e = omega arith

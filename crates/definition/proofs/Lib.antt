@@ -10,4 +10,5 @@ pub mod Changes
 pub mod Charges
 pub mod Lending
 pub mod Escapes
+pub mod Events
 pub mod EventLength

@@ -1,17 +1,17 @@
 -- What a call leaves and gives back is in order again.
 use Prim.Native.Nat.{ℕ, zero, suc, _≤_}
-use mathlib.Core.Path.{_≡_, refl, sym, ap, _∙_}
+use mathlib.Core.Path.{_≡_, refl, ap, _∙_}
 use mathlib.Core.Bool.{Bool, true, false, _&&_}
-use mathlib.Core.List.{List, [], _∷_}
-use lib.ListN.{length, getD, drop, length-take}
+use mathlib.Core.List.{List}
+use lib.ListN.{length}
 use lib.Dec.{leb}
 use native.Mathlib.Omega.{arith}
 use Rattle.definition.specs.declared.Limits.{Limits}
-use Rattle.definition.specs.Rows.{Table, Numbers, tableOf, Store}
+use Rattle.definition.specs.Rows.{Numbers, tableOf, Store}
 use Rattle.definition.specs.Rules.{chartLimits, openLimits, tableLimits, countersWithin, keepsRules}
 use Rattle.definition.specs.declared.Position.{Position}
-use Rattle.definition.specs.Reader.{Lent, counts, taken, storeOf, positionOf, lentAfter, allLong, longEnough, allAtMost, inOrder, Call, event, reading, Reply, eventReply, Answer, refused, answerOf, answerTo, call, exists}
-use Rattle.definition.proofs.Lending.{counts-are, store-back, long-after, long-many, at-most}
+use Rattle.definition.specs.Reader.{Lent, counts, storeOf, positionOf, lentAfter, allLong, longEnough, allAtMost, inOrder, Call, event, reading, Reply, eventReply, Answer, refused, answerOf, answerTo, call, exists}
+use Rattle.definition.proofs.Lending.{counts-are, store-back, long-after, long-many, at-most, chart-there}
 use Rattle.kept.specs.Statements.{StaysInOrder}
 use Rattle.kept.proofs.Base.{le-of, leb-of, and-left, and-right, and-both, false-is-true}
 use Rattle.kept.proofs.Okay.{OkOf}
@@ -24,29 +24,6 @@ use Rattle.kept.proofs.RulesKept.{kept-from}
 store-after : (x : Lent) (s : Store) → length (s .numbers .tables) ≡ 12 → length (tableOf (s .numbers) 0) ≡ 1 → length (tableOf (s .numbers) 10) ≡ length (tableOf (s .numbers) 9) → 12 ≤ length (x .tables)
     → storeOf (lentAfter x s) (positionOf s) ≡ s
 store-after x s w e f h = store-back x s (counts-are s w e f) (omega (arith, w, h))
-
--- ---- the chart's own row
-
-long-cons : (m : ℕ) (ms : List ℕ) (t : Table) (ts : List Table) → allLong (m ∷ ms) (t ∷ ts) ≡ (leb m (length t) && allLong ms ts)
-unfolding allLong
-long-cons m ms t ts = go (leb m (length t)) refl
-  where
-    go : (b : Bool) → leb m (length t) ≡ b → allLong (m ∷ ms) (t ∷ ts) ≡ (b && allLong ms ts)
-    go true e = rw (e, allLong)
-    go false e = rw (e, allLong)
-
-long-head : (m : ℕ) (ms : List ℕ) (t : Table) (ts : List Table) → allLong (m ∷ ms) (t ∷ ts) ≡ true → m ≤ length t
-long-head m ms t ts e = le-of m (length t) (and-left (leb m (length t)) (allLong ms ts) (sym (long-cons m ms t ts) ∙ e))
-
-taken-head : (k : ℕ) (ks : List ℕ) (m : ℕ) (ms : List ℕ) (ts : List Table) → allLong (m ∷ ms) ts ≡ true → k ≤ m → k ≤ length (getD (taken (k ∷ ks) ts) 0 [])
-unfolding taken
-taken-head k ks m ms [] e h = false-is-true (unfold allLong in e)
-taken-head k ks m ms (t ∷ ts) e h = omega (arith, length-take k t, long-head m ms t ts e, h)
-
-chart-row : (L : Limits) (x : Lent) (p : Position) → longEnough L x ≡ true → 1 ≤ length (tableOf (storeOf x p .numbers) 0)
-unfolding longEnough storeOf tableLimits chartLimits counts
-chart-row L x p e =
-    taken-head 1 (drop 1 (counts p)) 1 (drop 1 (tableLimits L)) (x .tables) (and-left (allLong (tableLimits L) (x .tables)) (leb (L .charge) (length (x .text))) e) (omega arith)
 
 -- ---- in order
 
@@ -102,7 +79,7 @@ stays-in-order L x p c short e f = rw (e, call, f, call) (answered c)
     answered : (c : Call) → Again L (answerTo L x p c)
     answered (event raw) = unfold answerTo in
         let R = kept-from L (storeOf x p) raw short (rules-of L x p f) in
-        answer-again L x p (eventReply L (storeOf x p) raw) e f (R .0) (omega (arith, R .1, chart-row L x p e))
+        answer-again L x p (eventReply L (storeOf x p) raw) e f (R .0) (omega (arith, R .1, chart-there L x p e))
     answered (reading t i) = read (exists (storeOf x p .numbers) t i) refl
       where
         read : (b : Bool) → exists (storeOf x p .numbers) t i ≡ b → Again L (answerTo L x p (reading t i))

@@ -73,9 +73,6 @@ names-cons L x n xs ns = go (not (eqb (num x 0) 0) || unknownFits L x n) refl
     go true e = rw (e, openNamesFit)
     go false e = rw (e, openNamesFit)
 
-pub names-rest : (L : Limits) (x n : Row) (xs ns : Table) → openNamesFit L (x ∷ xs) (n ∷ ns) ≡ true → openNamesFit L xs ns ≡ true
-names-rest L x n xs ns e = and-right (not (eqb (num x 0) 0) || unknownFits L x n) (openNamesFit L xs ns) (sym (names-cons L x n xs ns) ∙ e)
-
 abbrev pub NamedSo : Limits → Row → Row → Type 0
 NamedSo L x n = (not (eqb (num x 0) 0) || unknownFits L x n) ≡ true
 

@@ -1,30 +1,27 @@
 -- THE LAW OF STAGE 1: what is parsed of an event tells the definition's look.
 use Prim.Native.Nat.{ℕ, _+_}
-use mathlib.Core.Path.{_≡_, refl, sym, ap, ap₂, _∙_, subst}
+use mathlib.Core.Path.{_≡_, refl, sym, ap, ap₂, _∙_}
 use mathlib.Core.Bool.{Bool}
 use mathlib.Core.List.{List}
 use lib.ListN.{length}
 use Rattle.definition.specs.Limits.{limits01}
 use Rattle.definition.specs.declared.Position.{Position}
-use Rattle.definition.specs.Rows.{Table, Store, tableOf, Numbers, innermost, currentState, parentTag, root}
-use Rattle.definition.specs.Look.{look, nameCells}
+use Rattle.definition.specs.Rows.{Table, tableOf, Numbers, innermost, currentState, parentTag, root}
+use Rattle.definition.specs.Look.{nameCells}
 use Rattle.definition.specs.Reader.{firstNo, positionOf, rowsIn}
-use Rattle.definition.proofs.Base.{All}
 use Rattle.definition.proofs.Finds.{cells-length}
-use Rattle.names.specs.Names.{Inside, namesIn}
+use Rattle.names.specs.Names.{namesIn}
 use Rattle.names.proofs.NamesLaw.{names-law}
-use Rattle.event.specs.Described.{described}
-use Rattle.plain.specs.Plain.{Parsed, parsedOf, parsedRaw}
-use Rattle.plain.proofs.TotalLaw.{InForm}
+use Rattle.plain.specs.Plain.{Parsed, parsedOf}
 use Rattle.plan.specs.declared.Heard.{Heard}
 use Rattle.plan.specs.Heard.{heard}
 use Rattle.asked.specs.Asked.{askedIn, questionsBy}
-use Rattle.found.specs.Found.{ids, foundIn}
+use Rattle.found.specs.Found.{foundIn}
 use Rattle.heard.proofs.FieldLaw.{heard-law}
 use Rattle.asked.proofs.QuestionLaw.{questions-law}
 use Rattle.found.proofs.FoundLaw.{found-law, innermost-law}
 use Rattle.payload.proofs.PayloadLaw.{charge-law, made-law}
-use Rattle.look.specs.Looked.{lookedIn, lookedOf, Tells, LooksRight}
+use Rattle.look.specs.Looked.{lookedIn, lookedOf, LooksRight}
 
 pub looks-right : LooksRight
 unfolding lookedOf lookedIn positionOf rowsIn currentState parentTag root innermost
@@ -42,11 +39,6 @@ looks-right s e fit differ names data′ =
       made = made-law s e;
       charge = charge-law s e;
     }
-
--- Of an event's bytes, in form and with different keys.
-pub looks-raw : (s : Store) (raw : List ℕ) (f : InForm raw (described raw)) → All (Inside (s .text)) (nameCells (tableOf (s .numbers) 1)) → All (Inside (s .text)) (ids (tableOf (s .numbers) 6))
-    → Tells s (look s (f .event)) (lookedOf s (parsedRaw raw (described raw)))
-looks-raw s raw f names data′ = subst (λ (v : Parsed). Tells s (look s (f .event)) (lookedOf s v)) (sym (f .parsed)) (looks-right s (f .event) (f .form) (f .differ) names data′)
 
 -- Of a position only the names drawn and the open elements are read.
 pub looked-at : (cs ss ds xs ns : Table) (t : List ℕ) (p q : Position) (v : Parsed) → p .names ≡ q .names → p .opened ≡ q .opened → lookedIn cs ss ds xs ns t p v ≡ lookedIn cs ss ds xs ns t q v

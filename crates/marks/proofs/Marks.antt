@@ -9,19 +9,10 @@ use lib.ListN.{length, getD, length-map}
 use borrow.Author.Tests.{eqb-true, eq-eqb, ltb-true, ltb-false, lt-ltb, le-ltb, leb-true}
 use Rattle.definition.specs.Text.{str, same, placeIn}
 use Rattle.definition.specs.Elements.{among, elementNames, keyNames, numberIn, tagOf, keyOf}
-use Rattle.definition.proofs.Base.{same-eq, true-is-false, and-left, and-right}
+use Rattle.definition.proofs.Base.{same-eq, true-is-false, and-left, and-right, place-true}
 use Rattle.marks.specs.Marks.{mark, numberIf}
 
 -- ---- a search in a list of names
-
-place-true : (ns : List (List ℕ)) (w : List ℕ) → placeIn ns w < length ns → same (getD ns (placeIn ns w) []) w ≡ true
-unfolding placeIn
-place-true [] w h = absurd (omega arith)
-place-true (n ∷ ns) w h = go (same n w) refl (place-true ns w) h
-  where
-    go : (b : Bool) → same n w ≡ b → (placeIn ns w < length ns → same (getD ns (placeIn ns w) []) w ≡ true) → _<_ (elim b [ true ↦ 0 | false ↦ suc (placeIn ns w) ]) (suc (length ns)) → same (getD (n ∷ ns) (elim b [ true ↦ 0 | false ↦ suc (placeIn ns w) ]) []) w ≡ true
-    go true e ih h = e
-    go false e ih h = ih (omega (arith, h))
 
 place-le : (ns : List (List ℕ)) (w : List ℕ) (i : ℕ) → i < length ns → same (getD ns i []) w ≡ true → placeIn ns w ≤ i
 unfolding placeIn

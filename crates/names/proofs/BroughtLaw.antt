@@ -1,5 +1,5 @@
 -- WHERE THE NAMES OF AN EVENT STAND in its payload: its own name where its id or the generated name stands, then the words of one value.
-use Prim.Native.Nat.{ℕ, suc, _+_, _≤_, _<_}
+use Prim.Native.Nat.{ℕ, suc, _+_, _≤_}
 use mathlib.Core.Path.{_≡_, refl, sym, ap, ap₂, _∙_}
 use mathlib.Core.Bool.{Bool, true, false}
 use mathlib.Core.List.{List, [], _∷_, _++_, append-nil}
@@ -11,9 +11,8 @@ use Rattle.definition.specs.Text.{same, Piece, placeIn, generatedName, stateWor
 use Rattle.definition.specs.Elements.{key, Role, names, roleOf, isMasked, isName, isNames, namesState, numberIn, keyNames, keyOf, among}
 use Rattle.definition.specs.Event.{Attribute, Event, hasKey, keysDiffer}
 use Rattle.definition.specs.Look.{Load, valueLoads, textLoads, hasLoad, isGenerated, nameLoads, loadsOf, ownName, wordNames, namesFrom, namesBrought}
-use Rattle.definition.proofs.Base.{same-refl, same-eq, true-is-false, and-no}
+use Rattle.definition.proofs.Base.{same-refl, same-eq, true-is-false, and-no, place-true}
 use Rattle.definition.proofs.Roles.{id-name}
-use Rattle.text.proofs.Laws.{place-here, place-next}
 use Rattle.words.proofs.Laws.{by}
 use Rattle.plain.specs.Keyed.{valueIn, offsetIn}
 use Rattle.plain.proofs.ValueLaws.{has-here, has-past, value-here, value-past, offset-here, offset-past, value-none, value-append, has-behind, value-behind}
@@ -57,12 +56,6 @@ module _ (k : ℕ) where
 
 -- ---- a known key stands once
 
-found-same : (ns : List (List ℕ)) (w : List ℕ) → placeIn ns w < length ns → same (getD ns (placeIn ns w) []) w ≡ true
-found-same [] w h = absurd (omega arith)
-found-same (x ∷ xs) w h =
-    by (same x w) (λ e. ap (λ (n : ℕ). same (getD (x ∷ xs) n []) w) (place-here x xs w e) ∙ e)
-    (λ e. ap (λ (n : ℕ). same (getD (x ∷ xs) n []) w) (place-next x xs w e) ∙ found-same xs w (omega (arith, h, place-next x xs w e)))
-
 number-named : (ns : List (List ℕ)) (w : List ℕ) (i : ℕ) → numberIn ns w ≡ suc i → w ≡ getD ns i []
 unfolding numberIn
 number-named ns w i e =
@@ -70,7 +63,7 @@ number-named ns w i e =
     (λ q.
     let z : suc (placeIn ns w) ≡ suc i = rw (q, numberIn) at e in
     let y : placeIn ns w ≡ i = omega (arith, z) in
-    sym (same-eq (getD ns (placeIn ns w) []) w (found-same ns w (ltb-true (placeIn ns w) (length ns) q))) ∙ ap (λ (n : ℕ). getD ns n []) y)
+    sym (same-eq (getD ns (placeIn ns w) []) w (place-true ns w (ltb-true (placeIn ns w) (length ns) q))) ∙ ap (λ (n : ℕ). getD ns n []) y)
     (λ q. let z : 0 ≡ suc i = rw (q, numberIn) at e in absurd (omega (arith, z)))
 
 key-named : (w : List ℕ) (i : ℕ) → keyOf w ≡ suc i → w ≡ getD keyNames i []

@@ -13,7 +13,8 @@ use Rattle.definition.specs.Event.{lineOf, after, tailFrom, isNil, legible}
 use Rattle.definition.specs.Reader.{Call, event, reading}
 use Rattle.renaming.specs.Renaming.{renameWords, Moved, ValueRel, LinesRel, CallRel, CallsRel, allLines, keyWritten, elementIn, keyBefore, isFree}
 use Rattle.definition.proofs.Base.{and-left, and-right, same-eq, true-is-false}
-use Rattle.partners.proofs.Lines.{after-split, line-free}
+use Rattle.definition.proofs.Events.{after-split}
+use Rattle.partners.proofs.Lines.{line-free}
 
 module _ (ρ : List ℕ → List ℕ) where
   unfoldable movedSo : Role → List ℕ → List ℕ → Bool

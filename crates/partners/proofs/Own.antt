@@ -8,9 +8,10 @@ use Rattle.definition.specs.Text.{str, isSeparator}
 use Rattle.definition.specs.Elements.{Role, name, names, masked, plain, roleOf}
 use Rattle.definition.specs.Event.{lineOf, after, legible}
 use Rattle.definition.specs.Reader.{Call, event, reading}
+use Rattle.definition.proofs.Events.{after-split}
 use Rattle.renaming.specs.Renaming.{renameWords, Moved, ValueRel, LinesRel, CallRel, CallsRel, allLines, keyWritten, elementIn, keyBefore, isFree}
 use Rattle.partners.specs.Statements.{IdentityRenames, OwnPartner, RenamingsCompose}
-use Rattle.partners.proofs.Lines.{after-split, line-free}
+use Rattle.partners.proofs.Lines.{line-free}
 
 pub identity-renames : IdentityRenames
 identity-renames =

@@ -13,6 +13,7 @@ use Rattle.parts.proofs.MostLaws.{take-most}
 use Rattle.plain.specs.declared.Slot.{Slot}
 use Rattle.plain.specs.Plain.{slotBytes, loadsIn}
 use Rattle.plain.specs.Keyed.{noSlot}
+use Rattle.plain.proofs.CopyLaws.{loads-append}
 use Rattle.payload.specs.Laid.{laid}
 
 -- ---- one text
@@ -65,11 +66,6 @@ payload-append : (is js : List Load) → payload (is ++ js) ≡ payload is ++ pa
 unfolding payload
 payload-append [] js = refl
 payload-append (i ∷ is) js = ap (λ (x : List ℕ). i .bytes ++ x) (payload-append is js) ∙ sym (append-assoc (i .bytes) (payload is) (payload js))
-
-loads-append : (src : List ℕ) (xs ys : List Slot) → loadsIn src (xs ++ ys) ≡ loadsIn src xs ++ loadsIn src ys
-unfolding loadsIn
-loads-append src [] ys = refl
-loads-append src (x ∷ xs) ys = ap (λ (is : List Load). record { key = x .code; bytes = slotBytes src x } ∷ is) (loads-append src xs ys)
 
 -- The bytes of the first n slots.
 abbrev pub bytesOf : List ℕ → List Slot → ℕ → List ℕ

@@ -134,7 +134,7 @@ module _ (out : List ℕ) (pos : ℕ) (v out′ : List ℕ) (end : ℕ) (l : Lai
   stands k s e q =
       ap₂ slotBytes (now-front q) (e ∙ ap (λ (n : ℕ). record { code = k; at = pos; len = n - pos }) (l .ends)) ∙ laid-here out pos v (l .fits) k q
 
-loads-append : (src : List ℕ) (xs ys : List Slot) → loadsIn src (xs ++ ys) ≡ loadsIn src xs ++ loadsIn src ys
+pub loads-append : (src : List ℕ) (xs ys : List Slot) → loadsIn src (xs ++ ys) ≡ loadsIn src xs ++ loadsIn src ys
 unfolding loadsIn
 loads-append src [] ys = refl
 loads-append src (x ∷ xs) ys = ap (λ (is : List Load). record { key = x .code; bytes = slotBytes src x } ∷ is) (loads-append src xs ys)

@@ -12,7 +12,7 @@ use Rattle.definition.specs.Limits.{limits01}
 use Rattle.definition.specs.Event.{prepend, unescapeFrom, legible, Attribute, Event, hasText, kindFits, between, attributesFit, textFits, inForm}
 use Rattle.definition.specs.Look.{Load, valueLoads}
 use Rattle.definition.proofs.Base.{true-is-false, none-is-some, some-inj, and-left, and-right}
-use Rattle.definition.proofs.EventLength.{allowed-same}
+use Rattle.definition.proofs.Events.{allowed-same}
 use Rattle.lines.specs.Parts.{part, orNothing}
 use Rattle.words.proofs.Laws.{by}
 use Rattle.parts.specs.declared.Part.{Part}

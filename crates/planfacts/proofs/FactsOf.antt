@@ -1,10 +1,10 @@
 -- What the law of plans needs holds in every store that keeps the rules and has the chart's row.
 use Prim.Native.Nat.{ℕ, zero, suc, _≤_, _<_}
-use mathlib.Core.Path.{_≡_, refl, sym, ap}
+use mathlib.Core.Path.{_≡_, refl, ap}
 use mathlib.Core.Bool.{Bool, true, false}
 use mathlib.Core.List.{List, [], _∷_}
 use lib.ListN.{length, getD}
-use lib.Dec.{eqb, leb}
+use lib.Dec.{eqb}
 use native.Mathlib.Omega.{arith}
 use Rattle.definition.specs.declared.Limits.{Limits}
 use Rattle.definition.specs.Event.{Event}
@@ -13,10 +13,9 @@ use Rattle.definition.specs.Look.{look}
 use Rattle.definition.specs.Change.{entered}
 use Rattle.definition.specs.States.{ownState}
 use Rattle.definition.specs.Actions.{placeOfNumber}
-use Rattle.definition.specs.Rules.{tableLimits, chartLimits, keepsRules, hasOwnNumber, chosen}
-use Rattle.definition.specs.declared.Position.{Position}
-use Rattle.definition.specs.Reader.{decided, Lent, longEnough, allLong, storeOf, taken, counts}
-use Rattle.kept.proofs.Base.{All, neqb-of, and-left, true-is-false}
+use Rattle.definition.specs.Rules.{keepsRules, hasOwnNumber, chosen}
+use Rattle.definition.specs.Reader.{decided}
+use Rattle.kept.proofs.Base.{All, neqb-of}
 use Rattle.kept.proofs.Classes.{View, Fits, Nums, HasRow}
 use Rattle.kept.proofs.Grow.{nth-from}
 use Rattle.kept.proofs.Tables.{RowOk}
@@ -88,13 +87,3 @@ module _ (L : Limits) (s : Store) (e : Event) (rules : keepsRules L s ≡ true) 
   -- An event on a store that keeps the rules is decided by its plan.
   pub decided-by-plan : decided L (s .numbers) (look s e) ≡ decidedP L (s .numbers) (look s e)
   decided-by-plan = decided-is L (s .numbers) (look s e) facts-of
-
--- QUESTION 1 GIVES THE CHART'S ROW.
-pub chart-there : (L : Limits) (x : Lent) (p : Position) → longEnough L x ≡ true → 1 ≤ length (tableOf (storeOf x p .numbers) 0)
-unfolding longEnough allLong tableLimits chartLimits storeOf taken counts
-chart-there L x p h = go (x .tables) (and-left (allLong (tableLimits L) (x .tables)) (leb (L .charge) (length (x .text))) h)
-  where
-    go : (ts : List Table) → allLong (tableLimits L) ts ≡ true → 1 ≤ length (getD (taken (counts p) ts) 0 [])
-    go [] e = true-is-false (sym e)
-    go ([] ∷ ts) e = true-is-false (sym e)
-    go ((r ∷ t) ∷ ts) e = omega arith

@@ -13,11 +13,8 @@ use Rattle.definition.specs.Rules.{allWithin, tableLimits, chartLimits, openLim
 use Rattle.definition.specs.declared.Position.{Position}
 use Rattle.definition.specs.Reader.{longEnough, allLong, allAtMost, counts, taken, storeOf, inOrder}
 use Rattle.definition.proofs.Base.{and-true, elim-and, and-left, and-right}
+use Rattle.definition.proofs.Lending.{most-cons}
 use Rattle.questions.specs.Lent.{tables, lent, store, rulesKept, countsFit, countersFit, Few}
-
-pub at-most : (k m : ℕ) (ks ms : List ℕ) → allAtMost (k ∷ ks) (m ∷ ms) ≡ leb k m && allAtMost ks ms
-unfolding allAtMost
-at-most k m ks ms = elim-and (leb k m) (allAtMost ks ms)
 
 -- What is taken of a table has at most as many rows as are taken.
 within-taken : (ks ms : List ℕ) (ts : List Table) → allAtMost ks ms ≡ true → allWithin ms (taken ks ts) ≡ true
@@ -26,7 +23,7 @@ within-taken ks [] ts e = refl
 within-taken [] (m ∷ ms) ts e = refl
 within-taken (k ∷ ks) (m ∷ ms) [] e = refl
 within-taken (k ∷ ks) (m ∷ ms) (t ∷ ts) e =
-    let f : leb k m && allAtMost ks ms ≡ true = sym (at-most k m ks ms) ∙ e in
+    let f : leb k m && allAtMost ks ms ≡ true = sym (most-cons k m ks ms) ∙ e in
     let h : k ≤ m = leb-true k m (and-left (leb k m) (allAtMost ks ms) f) in
     let l : length (take k t) ≤ m = omega (arith, length-take k t) in
     rw (le-leb (length (take k t)) m l, allWithin) (within-taken ks ms ts (and-right (leb k m) (allAtMost ks ms) f))
@@ -60,7 +57,7 @@ unfolding allAtMost
 none-left ms = refl
 
 twelve : (k0 k1 k2 k3 k4 k5 k6 k7 k8 k9 k10 k11 m0 m1 m2 m3 m4 m5 m6 m7 m8 m9 m10 m11 : ℕ) → leb k0 m0 ≡ true → (leb k1 m1 && (leb k2 m2 && (leb k3 m3 && (leb k4 m4 && (leb k5 m5 && (leb k6 m6 && (leb k7 m7 && (leb k8 m8 && (leb k9 m9 && (leb k10 m10 && leb k11 m11)))))))))) ≡ allAtMost (k0 ∷ k1 ∷ k2 ∷ k3 ∷ k4 ∷ k5 ∷ k6 ∷ k7 ∷ k8 ∷ k9 ∷ k10 ∷ k11 ∷ []) (m0 ∷ m1 ∷ m2 ∷ m3 ∷ m4 ∷ m5 ∷ m6 ∷ m7 ∷ m8 ∷ m9 ∷ m10 ∷ m11 ∷ [])
-twelve k0 k1 k2 k3 k4 k5 k6 k7 k8 k9 k10 k11 m0 m1 m2 m3 m4 m5 m6 m7 m8 m9 m10 m11 e = simp (at-most, none-left, and-true, e)
+twelve k0 k1 k2 k3 k4 k5 k6 k7 k8 k9 k10 k11 m0 m1 m2 m3 m4 m5 m6 m7 m8 m9 m10 m11 e = simp (most-cons, none-left, and-true, e)
 
 counts-list : (p : Position) → (leb (p .states) 256 && (leb (p .transitions) 512 && (leb (p .regions) 512 && (leb (p .entries) 2048 && (leb (p .invokes) 64 && (leb (p .datums) 256 && (leb (p .parameters) 512 && (leb (p .members) 4096 && (leb (p .opened) 32 && (leb (p .opened) 32 && leb (p .«open_regions») 64)))))))))) ≡ allAtMost (counts p) (tableLimits limits01)
 unfolding counts tableLimits chartLimits openLimits

@@ -19,6 +19,7 @@ use Rattle.definition.proofs.Base.{All}
 use Rattle.kept.proofs.Base.{false-is-true}
 use Rattle.kept.proofs.Facts.{rules-from}
 use Rattle.definition.proofs.Places.{Fits}
+use Rattle.definition.proofs.Lending.{chart-there}
 use Rattle.names.specs.Names.{Inside}
 use Rattle.plain.specs.Plain.{Parsed}
 use Rattle.found.specs.Found.{ids}
@@ -34,7 +35,7 @@ use Rattle.plan.specs.Plan.{Planned, planned}
 use Rattle.plan.specs.Plans.{planBy, planOf}
 use Rattle.plan.specs.After.{applied, moveOf}
 use Rattle.plan.specs.Decided.{staysWithin, limitedP, decidedP}
-use Rattle.planfacts.proofs.FactsOf.{decided-by-plan, chart-there}
+use Rattle.planfacts.proofs.FactsOf.{decided-by-plan}
 use Rattle.planfacts.proofs.Given.{names-inside, ids-inside, Few, few}
 use Rattle.planfacts.proofs.Bounds.{look-charge, small, position-small, brought-small}
 use Rattle.see.specs.View.{seenBy, Short}

@@ -14,6 +14,7 @@ use Rattle.definition.specs.Elements.{tagOf, keyOf}
 use Rattle.definition.specs.Event as E
 use Rattle.definition.specs.Event.{Line, after, headed, lineOf, kindNames}
 use Rattle.definition.proofs.Base.{true-is-false, and-right}
+use Rattle.definition.proofs.Events.{after-split}
 use Rattle.lines.specs.declared.Scan.{Scan}
 use Rattle.lines.specs.Escapes.{scanned}
 use Rattle.lines.specs.Lines.{hasHead}
@@ -23,7 +24,6 @@ use Rattle.walk.specs.declared.Found.{Found}
 use Rattle.parts.specs.Parts as P
 use Rattle.parts.specs.Parts.{partAt, withKind, withName, withKey, withText, addedValue}
 use Rattle.walk.specs.Walk.{AsWritten, fits, written, found, nameFits, keyFits, valueFits, textFits, onEvent, onName, onKey, onValue}
-use Rattle.walk.proofs.Standing.{after-split}
 
 -- ---- a line by its head
 

@@ -15,7 +15,7 @@ use Rattle.lines.specs.declared.Scan.{Scan}
 use Rattle.lines.specs.Escapes.{scanned, counted}
 use Rattle.walk.specs.Walk.{fits, AsWritten}
 use Rattle.definition.proofs.Base.{true-is-false, none-is-some, some-inj, and-left, and-right, bool-ext, same-refl, same-eq, not-of}
-use Rattle.definition.proofs.EventLength.{allowed-same}
+use Rattle.definition.proofs.Events.{allowed-same}
 
 unfoldable isPlain : ℕ → Bool
 isPlain b = isAllowed b && not (eqb b 92) && not (eqb b 10)

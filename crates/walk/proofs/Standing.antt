@@ -7,11 +7,11 @@ use mathlib.Core.List.{List, [], _∷_, _++_, map, append-assoc}
 use lib.ListN.{length, take, drop, length-append, take-append-drop}
 use lib.Seq.{take-append-seam, drop-append-seam, drop-drop}
 use lib.Dec.{eqb}
-use borrow.Author.Tests.{eqb-true}
 use native.Mathlib.Omega.{arith}
 use Rattle.definition.specs.Text.{str}
 use Rattle.definition.specs.Event as E
 use Rattle.definition.specs.Event.{Line, after, headed, lineOf, linesFrom}
+use Rattle.definition.proofs.Events.{after-split}
 use Rattle.lines.specs.Parts.{part}
 use Rattle.walk.specs.Walk.{Placed, line, placedLines}
 
@@ -30,16 +30,6 @@ pub data AllStand (raw : List ℕ) : List Placed → Type 0 where
   cons : {at : ℕ} {l : Line} {ls : List Placed} → Stands raw at l → AllStand raw ls → AllStand raw (line at l ∷ ls)
 
 -- ---- what follows a head
-
-pub after-split : (h l v : List ℕ) → after h l ≡ some v → l ≡ h ++ v
-unfolding after
-after-split [] l v e = cc
-after-split (x ∷ h) [] v e = let y : _≡_ {A = ℕ} 0 1 = cc in absurd (omega arith)
-after-split (x ∷ h) (b ∷ l) v e = go (eqb x b) refl (after-split h l v)
-  where
-    go : (p : Bool) → eqb x b ≡ p → (after h l ≡ some v → l ≡ h ++ v) → b ∷ l ≡ x ∷ (h ++ v)
-    go true q ih = let z : x ≡ b = eqb-true x b q in let w : l ≡ h ++ v = ih (rw (q, after) at e) in cc
-    go false q ih = let z : none ≡ some v = rw (q, after) at e in let y : _≡_ {A = ℕ} 0 1 = cc in absurd (omega arith)
 
 part-after : (raw l h v : List ℕ) (at : ℕ) → part raw at (length l) ≡ l → l ≡ h ++ v → part raw (at + length h) (length v) ≡ v
 unfolding part

@@ -12,7 +12,8 @@ use Rattle.definition.specs.Text.{placeIn}
 use Rattle.definition.specs.Elements.{tagOf}
 use Rattle.definition.specs.Event as E
 use Rattle.definition.specs.Event.{Body, Event, linesFrom, tailFrom, isNil, linesOf, legible, bodyOf, eventWith, namedEvent, eventOfLines, kindNames, readEvent, between}
-use Rattle.definition.proofs.Base.{none-is-some, some-inj}
+use Rattle.definition.proofs.Base.{none-is-some}
+use Rattle.definition.proofs.Events.{with-split}
 use Rattle.lines.specs.Escapes.{scanned}
 use Rattle.parts.specs.declared.Part.{Part}
 use Rattle.parts.specs.Walked.{Walked}
@@ -45,13 +46,6 @@ pub data Taken (raw : List ℕ) (w : Walked) (o : Option Event) : Type 0 where
   whole : (e : Event) → o ≡ some e → Within e → Carries raw w e → Taken raw w o
   too-long : Stopped w → 49152 < length raw → Taken raw w o
   none-of : Stopped w → ((e : Event) → o ≡ some e → Within e → ⊥) → Taken raw w o
-
-with-split : (k : ℕ) (n : Option (List ℕ)) (o : Option Body) (e : Event) → eventWith k n o ≡ some e
-    → (x : List ℕ) × (b : Body) × (n ≡ some x) × (o ≡ some b) × (record { kind = k; name = x; attributes = b .attributes; text = b .text } ≡ e)
-unfolding eventWith
-with-split k none o e q = none-is-some e q
-with-split k (some x) none e q = none-is-some e q
-with-split k (some x) (some b) e q = (x, b, refl, refl, some-inj e _ e q)
 
 module _ (raw : List ℕ) where
   nothing : (ls : List Placed) (w : Walked) → w .next ≡ 5 → Taken raw (walk ls w) none

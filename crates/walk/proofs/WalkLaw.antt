@@ -148,15 +148,6 @@ value-only at (E.value x) d e = true-is-false e
 value-only at (E.text x) d e = refl
 value-only at E.junk d e = refl
 
-no-value : (k : List ℕ) (l : Line) (ls : List Line) → isValue l ≡ false → bodyOf (some k) (l ∷ ls) ≡ none
-unfolding bodyOf isValue
-no-value k (E.event x) ls e = refl
-no-value k (E.name x) ls e = refl
-no-value k (E.key x) ls e = refl
-no-value k (E.value x) ls e = true-is-false e
-no-value k (E.text x) ls e = refl
-no-value k E.junk ls e = refl
-
 -- A key and then no value.
 key-then : (at : ℕ) (k : List ℕ) (d : Walked) (b : ℕ) (l : Line) → isValue l ≡ false → step (onKey at (E.key k) d .next) b l (onKey at (E.key k) d) .next ≡ 5
 unfolding onKey withKey broken step

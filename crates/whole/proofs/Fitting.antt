@@ -35,12 +35,13 @@ use Rattle.definition.specs.Reader.{positionOf, rowsIn}
 use Rattle.definition.specs.Look.{oneIf}
 use Rattle.definition.proofs.Changes.{alter-length}
 use Rattle.definition.proofs.Finds.{refs-length}
+use Rattle.definition.proofs.Lending.{chart-there}
 use Rattle.payload.proofs.PayloadLaw.{made-law}
 use Rattle.plan.proofs.Fifteen.{transitions-count, regions-count, entries-count, invokes-count, datums-count, parameters-count}
 use Rattle.plan.specs.After.{transitionsAfter, regionsAfter, entriesAfter, invokesAfter, datumsAfter, parametersAfter}
 use Rattle.plan.specs.After.{applied, moveOf, moved, chartAfter, statesAfter, openedAfter, openRegionsAfter, addedIf}
 use Rattle.plan.specs.Decided.{limitedP, decidedP}
-use Rattle.planfacts.proofs.FactsOf.{decided-by-plan, chart-there}
+use Rattle.planfacts.proofs.FactsOf.{decided-by-plan}
 use Rattle.kept.proofs.RulesKept.{accepted-kept}
 use Rattle.kept.proofs.Facts.{rules-from}
 use Rattle.kept.proofs.EnteredOk.{known-of}
