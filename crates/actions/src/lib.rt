@@ -1,5 +1,8 @@
 // Document 01, module 6, Actions: entries, if and foreach, else and elseif, script, send and invoke, param and content. From what is seen, by value, with no table.
 // `both_` is start and end as one event.
+
+#![tactic(auto)]
+
 ghost use Rattle.std.specs.Prelude.{◌≡◌, ◌<◌};
 ghost use Rattle.plan.specs.Plan.{planned};
 ghost use Rattle.plan.specs.Plans.{only_nest_p, entry_p, log_p, assign_p, root_script_p, script_p, send_p, block_plan, block_p, both_block_p, end_block_p, else_p, else_if_p, invoke_p, param_p, send_content_p, content_of_send_p, content_p};

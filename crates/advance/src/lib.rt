@@ -1,4 +1,7 @@
 // The reading position after an accepted event, by the position's own methods where one element opens or ends, or a name is drawn.
+
+#![tactic(auto)]
+
 ghost use Rattle.std.specs.Prelude.{◌≡◌, ◌≤◌, ◌<◌, ◌+◌};
 ghost use Rattle.definition.specs.Look.{one_if};
 ghost use Rattle.plan.specs.After.{move_of};

@@ -1,4 +1,7 @@
 // A whole plan written: one call a table.
+
+#![tactic(auto)]
+
 ghost use Rattle.std.specs.Prelude.{◌≡◌, ◌<◌, ◌≤◌, length};
 ghost use Rattle.definition.specs.Look.{kept_name, name_row};
 ghost use Rattle.tables.specs.Whole.{open_row_in};

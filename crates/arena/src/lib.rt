@@ -1,4 +1,7 @@
 // The texts of an accepted event, its words and its names, written.
+
+#![tactic(auto)]
+
 ghost use Rattle.std.specs.Prelude.{◌≡◌, replicate};
 ghost use Rattle.plain.specs.Plain.{parsed_in};
 ghost use Rattle.arena.specs.Storing.{Storable, Stored};
@@ -13,7 +16,7 @@ use texts::texts_of;
 use wordlists::write_words;
 
 /// How many rows of states and of members there are then, and how much of the text is in use.
-#[derive(Drop)]
+#[derive(Clone, Copy)]
 pub struct Written {
     pub states: usize,
     pub members: usize,

@@ -1,4 +1,7 @@
 // The questions 5 to 12 of an event: the first no.
+
+#![tactic(auto)]
+
 ghost use Rattle.std.specs.Prelude.{◌≡◌, not, ◌&&◌, eqb, leb};
 ghost use Rattle.definition.specs.Elements as E;
 ghost use Rattle.definition.specs.Reader.{first_no};

@@ -1,4 +1,7 @@
 // Reads event lines on standard input and prints the chart that they make, or the first refusal.
+
+#![tactic(auto)]
+
 use definition::Position;
 use input::read_all;
 use libc::STDOUT_FILENO;

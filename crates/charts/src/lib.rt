@@ -1,4 +1,7 @@
 // The chart's row, states and transitions, written as a plan says. `t` are the event's texts, `tag` its element, n rows are in use.
+
+#![tactic(auto)]
+
 ghost use Rattle.std.specs.Prelude.{◌≡◌, set};
 ghost use Rattle.definition.specs.Change.{alter_row};
 ghost use Rattle.plan.specs.After.{state_columns_after};

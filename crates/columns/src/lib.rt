@@ -1,4 +1,7 @@
 // Question 2, column by column: does a number keep its class? Transitions and regions are searched by halves, since their numbers rise.
+
+#![tactic(auto)]
+
 ghost use Rattle.std.specs.Prelude.{◌≡◌, ◌&&◌, ◌||◌, not, suc, ◌+◌, ◌*◌, ◌≤◌, length, eqb, leb, ltb};
 ghost use Rattle.definition.specs.Rows.{num};
 ghost use Rattle.definition.specs.Rules.{is_inside};
@@ -8,7 +11,7 @@ ghost use Rattle.columns.specs.Sees.{Rising, Reaches, ChoiceTest, texts_inside, 
 use definition::{RegionId, StateId, TransitionId};
 
 /// What rows are held against, beside the transitions and regions.
-#[derive(Drop)]
+#[derive(Clone, Copy)]
 pub struct Known {
     pub states: u32,
     pub entries: u32,

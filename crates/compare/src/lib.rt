@@ -1,1 +1,3 @@
 // The definition held to the running Rust: tests/definition writes the cases.
+
+#![tactic(auto)]

@@ -1,4 +1,7 @@
 // An event in form, of which the parts are at hand: the questions 5 to 15, and what an accepted event leaves. Slices are long enough and in order.
+
+#![tactic(auto)]
+
 ghost use Rattle.std.specs.Prelude.{◌≡◌};
 ghost use Rattle.plain.specs.Plain.{parsed_in};
 ghost use Rattle.questions.specs.Lent.{tables, lent};
@@ -16,7 +19,7 @@ use write::write;
 
 /// number: 0, or the first no; position: the one after an accepted event, else the one that came.
 #[repr(C)]
-#[derive(Drop)]
+#[derive(Clone, Copy)]
 pub struct Answer {
     pub number: u32,
     pub position: Position,

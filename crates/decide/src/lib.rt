@@ -1,4 +1,7 @@
 // The decision of an event: by its kind, then by its element. And question 15, by counting before anything is written.
+
+#![tactic(auto)]
+
 ghost use Rattle.std.specs.Prelude.{◌≡◌, ◌<◌, ◌+◌, ◌-◌, leb, true};
 ghost use Rattle.definition.specs.Limits.{limits01};
 ghost use Rattle.plan.specs.Plans.{start_p, both_p, end_p, plan_by, rest_p};

@@ -1,4 +1,7 @@
 // What every decision is made of: the plan that does nothing, the groups of a plan, and the tests.
+
+#![tactic(auto)]
+
 ghost use Rattle.std.specs.Prelude.{◌≡◌, ◌<◌, suc};
 ghost use Rattle.plan.specs.Plan.{no_chart, no_state, no_transition, no_entry, no_invoke, no_members, member, keeping, counting, inside};
 ghost use Rattle.plan.specs.Plans.{idle_in, begun, ended, new_entry, one_region, one_member, some_words, one_more, state_to, initial_to};
@@ -11,7 +14,7 @@ use plan::{
 };
 
 /// The answer: a refusal, or 0 and the plan.
-#[derive(Drop)]
+#[derive(Clone, Copy)]
 pub struct Decision {
     pub refusal: u32,
     pub plan: Plan,

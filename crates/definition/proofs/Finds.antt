@@ -8,7 +8,7 @@ use lib.Dec.{eqb}
 use native.Mathlib.Omega.{arith}
 use Rattle.definition.specs.Text.{same, Piece}
 use Rattle.definition.specs.Rows.{Table, Cell, num, cell_at, text_at, text_from}
-use Rattle.definition.specs.Look.{span_of, find_name, find_datum, name_cells, piece_cell, resolve}
+use Rattle.definition.specs.Look.{enter, span_of, find_name, find_datum, name_cells, piece_cell, resolve}
 use Rattle.definition.proofs.Base.{test, same_refl}
 use Rattle.definition.proofs.Places.{Located}
 
@@ -51,7 +51,7 @@ cells_length (r ∷ rs) = ap suc (cells_length rs)
 pub refs_length : (t : List ℕ) (cs : List Cell) (ps : List Piece) → length (resolve t cs ps).refs ≡ length ps
 unfolding resolve
 refs_length t cs [] = refl
-refs_length t cs (p ∷ ps) = ap suc (refs_length t _ ps)
+refs_length t cs (p ∷ ps) = ap suc (refs_length t (enter cs (find_name t cs p.word) (piece_cell p)) ps)
 
 pub cell_word : (t : List ℕ) (p : Piece) → Located t p → text_at t (piece_cell p) ≡ p.word
 unfolding text_at text_from piece_cell span_of

@@ -1,7 +1,7 @@
 // Columns of the tables, by name. A text takes two: its place in the text plus one, and its length.
 
 /// The chart's one row.
-#[derive(Drop)]
+#[derive(Clone, Copy)]
 pub struct ChartColumn {}
 
 impl ChartColumn {
@@ -12,7 +12,7 @@ impl ChartColumn {
     pub const BINDING: usize = 2;
 }
 
-#[derive(Drop)]
+#[derive(Clone, Copy)]
 pub struct StateColumn {}
 
 impl StateColumn {
@@ -37,7 +37,7 @@ impl StateColumn {
     pub const HAS_CONTENT: usize = 9;
 }
 
-#[derive(Drop)]
+#[derive(Clone, Copy)]
 pub struct TransitionColumn {}
 
 impl TransitionColumn {
@@ -55,7 +55,7 @@ impl TransitionColumn {
 }
 
 /// The columns before the texts.
-#[derive(Drop)]
+#[derive(Clone, Copy)]
 pub struct EntryColumn {}
 
 impl EntryColumn {
@@ -73,7 +73,7 @@ impl EntryColumn {
 }
 
 /// The columns before the texts.
-#[derive(Drop)]
+#[derive(Clone, Copy)]
 pub struct InvokeColumn {}
 
 impl InvokeColumn {
@@ -86,7 +86,7 @@ impl InvokeColumn {
     pub const HAS_CONTENT: usize = 3;
 }
 
-#[derive(Drop)]
+#[derive(Clone, Copy)]
 pub struct DatumColumn {}
 
 impl DatumColumn {
@@ -97,7 +97,7 @@ impl DatumColumn {
     pub const ID_LENGTH: usize = 2;
 }
 
-#[derive(Drop)]
+#[derive(Clone, Copy)]
 pub struct ParameterColumn {}
 
 impl ParameterColumn {
@@ -106,7 +106,7 @@ impl ParameterColumn {
     pub const OWNER: usize = 1;
 }
 
-#[derive(Drop)]
+#[derive(Clone, Copy)]
 pub struct MemberColumn {}
 
 impl MemberColumn {
@@ -118,7 +118,7 @@ impl MemberColumn {
 }
 
 /// An open element.
-#[derive(Drop)]
+#[derive(Clone, Copy)]
 pub struct OpenColumn {}
 
 impl OpenColumn {
@@ -131,7 +131,7 @@ impl OpenColumn {
     pub const LENGTH: usize = 3;
 }
 
-#[derive(Drop)]
+#[derive(Clone, Copy)]
 pub struct OpenRegionColumn {}
 
 impl OpenRegionColumn {

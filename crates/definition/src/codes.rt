@@ -1,7 +1,7 @@
 // Kinds of event, elements, keys and the codes that rows hold, by name: the numbers are the definition's.
 
 /// Kinds of event: `open`, `empty`, `whole`, `end`.
-#[derive(Drop)]
+#[derive(Clone, Copy)]
 pub struct Kind {}
 
 impl Kind {
@@ -15,7 +15,7 @@ impl Kind {
 }
 
 /// Elements by number; 0 is every other name.
-#[derive(Drop)]
+#[derive(Clone, Copy)]
 pub struct Tag {}
 
 impl Tag {
@@ -77,7 +77,7 @@ impl Tag {
 }
 
 /// Keys by number, as places of an index; 0 is every other key.
-#[derive(Drop)]
+#[derive(Clone, Copy)]
 pub struct Key {}
 
 impl Key {
@@ -139,7 +139,7 @@ impl Key {
 }
 
 /// What an entry is.
-#[derive(Drop)]
+#[derive(Clone, Copy)]
 pub struct EntryKind {}
 
 impl EntryKind {
@@ -161,7 +161,7 @@ impl EntryKind {
 }
 
 /// Whose parameter it is.
-#[derive(Drop)]
+#[derive(Clone, Copy)]
 pub struct OwnerKind {}
 
 impl OwnerKind {
@@ -173,7 +173,7 @@ impl OwnerKind {
 }
 
 /// Lists that members belong to.
-#[derive(Drop)]
+#[derive(Clone, Copy)]
 pub struct ListKind {}
 
 impl ListKind {

@@ -1,3 +1,5 @@
+#![tactic(auto)]
+
 ghost use Rattle.std.specs.Prelude.{◌≡◌, ◌-◌, ◌<◌};
 ghost use Rattle.definition.specs.Limits.{limits01};
 ghost use Rattle.definition.specs.Look.{one_if};
@@ -7,11 +9,11 @@ pub mod cells;
 pub mod codes;
 
 /// The chart type: its associated constants are document 01's limits.
-#[derive(Drop)]
+#[derive(Clone, Copy)]
 pub struct Chart {}
 
 /// The limits as one value, as definitions and proofs take them.
-#[derive(Drop)]
+#[derive(Clone, Copy)]
 pub struct Limits {
     pub name: u32,
     pub attributes: u32,
@@ -102,21 +104,21 @@ pub fn one_if(b: bool) -> u32
 
 /// Numbers of rows are three types: one given for another does not compile. To C each is its number.
 #[repr(C)]
-#[derive(Drop)]
+#[derive(Clone, Copy)]
 pub struct StateId(pub u32);
 
 #[repr(C)]
-#[derive(Drop)]
+#[derive(Clone, Copy)]
 pub struct TransitionId(pub u32);
 
 #[repr(C)]
-#[derive(Drop)]
+#[derive(Clone, Copy)]
 pub struct RegionId(pub u32);
 
 /// The reading position, which goes in by value and comes back: how many rows of each table are in use, how many elements and regions are open, the current
 /// region, what was drawn from each counter, how much of the text is in use, and the text charge.
 #[repr(C)]
-#[derive(Drop)]
+#[derive(Clone, Copy)]
 pub struct Position {
     pub opened: u32,
     pub states: u32,

@@ -1,4 +1,7 @@
 // Elements by number: a name by its mark, and one comparison.
+
+#![tactic(auto)]
+
 ghost use Rattle.std.specs.Prelude.{◌≡◌};
 ghost use Rattle.definition.specs.Elements.{tag_of};
 ghost use Rattle.marks.specs.Marks.{mark};

@@ -1,4 +1,7 @@
 // Entries, invokes, data and parameters, written as a plan says: one function a table. `t` are the event's texts, `tag` its element, n rows are in use.
+
+#![tactic(auto)]
+
 ghost use Rattle.std.specs.Prelude.{◌≡◌};
 ghost use Rattle.definition.specs.Change.{alter_row};
 ghost use Rattle.tables.specs.Whole.{set_unless};

@@ -1,4 +1,7 @@
 // The description of an event's bytes: questions 3 and 4, then numbers, and where each text stands.
+
+#![tactic(auto)]
+
 ghost use Rattle.std.specs.Prelude.{◌≡◌, ◌+◌, ◌<◌, ◌≤◌, length, get_or, take, drop};
 ghost use Rattle.lines.specs.Lines.{event_length};
 ghost use Rattle.parts.specs.Parts.{no_pair, pairs_of};
@@ -14,7 +17,7 @@ use walk::walk_lines;
 
 // An event's bytes taken apart: its kind from 0 and its element's number; the first `count` of the rows that are lent beside it are its attributes, in order. Of
 // kind 2, `whole`, `text` is the text. A refused event has the number of the question that is answered no, and zeros.
-#[derive(Drop)]
+#[derive(Clone, Copy)]
 pub struct Head {
     pub number: u32,
     pub kind: u32,
@@ -133,7 +136,7 @@ fn keys_differ(raw: &[u8], pairs: &[[u16; 8]], n: usize) -> bool
 }
 
 // A stream's first event, and where it ends.
-#[derive(Drop)]
+#[derive(Clone, Copy)]
 pub struct Next {
     pub event: Head,
     pub end: usize,

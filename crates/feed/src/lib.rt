@@ -1,4 +1,7 @@
 // One event that is taken apart, on slices that are long enough and in order: its parts are read where they stand, or unescaped first.
+
+#![tactic(auto)]
+
 ghost use Rattle.std.specs.Prelude.{◌≡◌, length};
 ghost use Rattle.definition.specs.Limits.{limits01};
 ghost use Rattle.definition.specs.Reader as R;

@@ -1,4 +1,7 @@
 // The text columns of a row, filled as the element's shape says from the event's texts.
+
+#![tactic(auto)]
+
 ghost use Rattle.std.specs.Prelude.{◌≡◌, [], suc, ◌<◌, get_or, set, drop};
 ghost use Rattle.definition.specs.Rows.{cell_at, with_cell};
 ghost use Rattle.fill.specs.Fill.{starts, start_of, cell, as_cell, cell_by, fill_from, shaped_by};
@@ -170,7 +173,7 @@ fn start_of(tag: u32, shape: u32) -> usize
 }
 
 /// A text in the arena: one more than its place, and its length; 0 and 0 where there is none.
-#[derive(Drop)]
+#[derive(Clone, Copy)]
 pub struct TextCell {
     pub at: u32,
     pub len: u32,

@@ -1,4 +1,7 @@
 // The rows that an event finds: the data that it repeats, the innermost open element by its name.
+
+#![tactic(auto)]
+
 ghost use Rattle.std.specs.Prelude.{◌≡◌};
 ghost use Rattle.definition.specs.Text.{same, bytes_at};
 ghost use Rattle.definition.specs.Look.{find_datum, is_innermost};

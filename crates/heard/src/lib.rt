@@ -1,4 +1,7 @@
 // What an event says, as numbers: all that a plan needs of it.
+
+#![tactic(auto)]
+
 ghost use Rattle.std.specs.Prelude.{◌≡◌, ◌≤◌, length};
 ghost use Rattle.definition.specs.Text.{event_words, state_words};
 ghost use Rattle.definition.specs.Elements.{key};

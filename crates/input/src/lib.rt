@@ -1,10 +1,13 @@
 // Standard input, fed to the reader piece by piece.
+
+#![tactic(auto)]
+
 use definition::{Position, RegionId};
 use pieces::{Piece, next_piece};
 use streams::Streamed;
 
 /// How far the input is read and fed.
-#[derive(Drop)]
+#[derive(Clone, Copy)]
 pub struct Reading {
     pub more: bool,
     pub failed: bool,

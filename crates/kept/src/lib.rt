@@ -1,1 +1,3 @@
 // Proofs only: every accepted event keeps the chart rules.
+
+#![tactic(auto)]

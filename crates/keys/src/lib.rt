@@ -1,4 +1,7 @@
 // Keys by number: a name by its mark, and one comparison.
+
+#![tactic(auto)]
+
 ghost use Rattle.std.specs.Prelude.{◌≡◌};
 ghost use Rattle.definition.specs.Elements.{key_of};
 ghost use Rattle.marks.specs.Marks.{mark};

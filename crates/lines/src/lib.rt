@@ -1,4 +1,7 @@
 // Event lines: lines, heads, escapes, the bounds of a stream's events, and parts of an event compared as they are read.
+
+#![tactic(auto)]
+
 ghost use Rattle.std.specs.Prelude.{◌≡◌, true, ◌+◌, ◌-◌, ◌≤◌, ◌<◌, length, drop};
 ghost use Rattle.definition.specs.Text.{str, same};
 ghost use Rattle.definition.specs.Event.{legible};
@@ -8,14 +11,14 @@ ghost use Rattle.lines.specs.Blocks.{all, is_within_line, is_plain, is_text};
 ghost use Rattle.lines.specs.Parts.{part, or_nothing};
 
 // What a scan of a line finds: whether it is legible, and its unescaped length.
-#[derive(Drop)]
+#[derive(Clone, Copy)]
 pub struct Scan {
     pub ok: bool,
     pub len: usize,
 }
 
 // What follows a line's head: where it ends, and whether each of its bytes is known to be the text's.
-#[derive(Drop)]
+#[derive(Clone, Copy)]
 pub struct Tail {
     pub end: usize,
     pub plain: bool,

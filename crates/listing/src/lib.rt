@@ -1,4 +1,7 @@
 // A chart as the program `chartlist` prints it, put into a lent buffer. What does not fit is left out.
+
+#![tactic(auto)]
+
 ghost use Rattle.std.specs.Prelude.{◌≡◌, [], ◌≤◌, ◌<◌, length, get_or, take};
 ghost use Rattle.definition.specs.Text.{str, decimal};
 ghost use Rattle.definition.specs.Rows.{num};

@@ -1,4 +1,7 @@
 // Stage 1: all that is read of an event's text and of the tables by name, as numbers. The slices are the parts in use.
+
+#![tactic(auto)]
+
 ghost use Rattle.std.specs.Prelude.{◌≡◌, true, [], ◌<◌, ◌≤◌, length, get_or};
 ghost use Rattle.definition.specs.Limits.{limits01};
 ghost use Rattle.definition.specs.Rows.{num, last_of};
@@ -20,7 +23,7 @@ use plan::Heard;
 
 /// no: the first no of the questions 5 to 12, or 0. refs, new: how many names the event brings, the element's own included, and how many of them are new.
 /// made: whether a name is generated.
-#[derive(Drop)]
+#[derive(Clone, Copy)]
 pub struct Looked {
     pub no: u32,
     pub heard: Heard,

@@ -1,4 +1,7 @@
 // Known names told apart by a mark.
+
+#![tactic(auto)]
+
 ghost use Rattle.std.specs.Prelude.{◌≡◌, ◌<◌, ◌≤◌, length};
 ghost use Rattle.definition.specs.Text.{same};
 ghost use Rattle.marks.specs.Marks.{mark, number_if};

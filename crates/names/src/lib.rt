@@ -1,4 +1,7 @@
 // State names: the row that has a name, and the names that an event brings: how many, and how many of them are new.
+
+#![tactic(auto)]
+
 ghost use Rattle.std.specs.Prelude.{◌≡◌, true, ◌∷◌, [], ◌+◌, ◌<◌, ◌≤◌, length, take, drop};
 ghost use Rattle.definition.specs.Text as T;
 ghost use Rattle.definition.specs.Text.{state_words};
@@ -178,7 +181,7 @@ fn new_if(known: bool, w: &[u8], v: &[u8], from: usize) -> usize
 }
 
 /// The names of an event: the number of the first one's state, from 1, how many there are, the element's own included, and how many are new.
-#[derive(Drop)]
+#[derive(Clone, Copy)]
 pub struct Names {
     pub own: usize,
     pub refs: usize,

@@ -1,4 +1,7 @@
 // Which element may stand in which, which hold a text, which name a state.
+
+#![tactic(auto)]
+
 ghost use Rattle.std.specs.Prelude.{◌≡◌, [], ◌<◌, get_or};
 ghost use Rattle.definition.specs.Elements.{among, holds_text, names_state};
 ghost use Rattle.definition.specs.Nesting.{parent_allowed};

@@ -1,1 +1,3 @@
 // Refusal numbers by cases written by hand, at document 01's own limits.
+
+#![tactic(auto)]

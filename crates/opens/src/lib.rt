@@ -1,10 +1,13 @@
 // The small record of the open element, lent and changed where it is. A struct behind a reference is proved by hand, so whoever needs the record by value calls `opened` or `outside`.
+
+#![tactic(auto)]
+
 ghost use Rattle.std.specs.Prelude.{◌≡◌};
 
 use definition::{StateId, TransitionId};
 
 /// Of the innermost open element: the state and the transition that its content stands in, and its tag.
-#[derive(Drop)]
+#[derive(Clone, Copy)]
 pub struct Open {
     pub state: StateId,
     pub transition: TransitionId,

@@ -1,4 +1,7 @@
 // Question 2 beside the columns: numbers that rise, names that are distinct, open elements.
+
+#![tactic(auto)]
+
 ghost use Rattle.std.specs.Prelude.{◌≡◌, ◌||◌, not, ◌<◌, ◌≤◌, length, replicate, eqb};
 ghost use Rattle.definition.specs.Limits.{limits01};
 ghost use Rattle.definition.specs.Text as T;

@@ -1,4 +1,7 @@
 // The parts of an event as its lines bring them.
+
+#![tactic(auto)]
+
 ghost use Rattle.std.specs.Prelude.{◌≡◌, ◌^◌, ◌<◌, ◌≤◌, length, get_or, set};
 ghost use Rattle.definition.specs.Text.{place_in};
 ghost use Rattle.definition.specs.Event.{kind_names};
@@ -7,7 +10,7 @@ ghost use Rattle.parts.specs.Parts.{part_at, no_pair, no_pairs, pairs_of, at_mos
 use text::same;
 
 // A part of an event: where it is written, in how many bytes, and its unescaped length. Small, since descriptions go by value.
-#[derive(Drop)]
+#[derive(Clone, Copy)]
 pub struct Part {
     pub at: u16,
     pub len: u16,
@@ -15,7 +18,7 @@ pub struct Part {
 }
 
 // An attribute: its key's number, 0 where the key is unknown, and both parts.
-#[derive(Drop)]
+#[derive(Clone, Copy)]
 pub struct Pair {
     pub code: u32,
     pub key: Part,
@@ -24,7 +27,7 @@ pub struct Pair {
 
 // What all lines have brought but the attributes: those stand in rows that are lent, since as a part of this they would be copied from stage to stage.
 // `next` is 4 after a text and 2 without one, 5 where the event is out of form; the first `count` rows are the attributes, in order.
-#[derive(Drop)]
+#[derive(Clone, Copy)]
 pub struct Heading {
     pub next: u32,
     pub kind: u32,

@@ -1,4 +1,7 @@
 // What an accepted event adds to the text, behind what is in use: its values, its text, a generated name; and what they are charged.
+
+#![tactic(auto)]
+
 ghost use Rattle.std.specs.Prelude.{◌≡◌, ◌+◌, ◌≤◌, suc, ◌<◌, length};
 ghost use Rattle.definition.specs.Limits.{limits01};
 ghost use Rattle.definition.specs.Look.{payload, text_loads, name_loads, text_charge};
@@ -111,7 +114,7 @@ pub fn is_made(src: &[u8], p: Plain, ix: Keyed) -> bool
 }
 
 // Where the values, the text and a generated name end.
-#[derive(Drop)]
+#[derive(Clone, Copy)]
 pub struct Ends {
     pub values: usize,
     pub text: usize,

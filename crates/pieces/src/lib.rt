@@ -1,4 +1,7 @@
 // Standard input, read and cut piece by piece: a piece ends where an event does.
+
+#![tactic(auto)]
+
 ghost use Rattle.std.specs.Prelude.{◌-◌, ◌≤◌, length, take, drop, ◌≡◌};
 ghost use Rattle.pieces.specs.Pieces.{Parted};
 
@@ -6,7 +9,7 @@ use libc::STDIN_FILENO;
 use lines::next_event;
 
 // Where a stream's last event begins, and how many events stand before it.
-#[derive(Drop)]
+#[derive(Clone, Copy)]
 struct Last {
     at: usize,
     before: u64,
@@ -42,7 +45,7 @@ fn move_to_front(bytes: &mut [u8], from: usize, to: usize)
 }
 
 // What was read: how many bytes the buffer holds now, and whether the input ended or could not be read.
-#[derive(Drop)]
+#[derive(Clone, Copy)]
 struct Input {
     held: usize,
     ended: bool,
@@ -87,7 +90,7 @@ fn fill(buffer: &mut [u8], held: usize) -> Input
 }
 
 /// What is fed next: the buffer's first bytes up to `end`, with so many events where all are accepted; the buffer holds `held` bytes.
-#[derive(Drop)]
+#[derive(Clone, Copy)]
 pub struct Piece {
     pub end: usize,
     pub events: u64,

@@ -1,4 +1,7 @@
 // An event's parts as they are read: each stands unescaped in one slice, the event's own bytes or a copy.
+
+#![tactic(auto)]
+
 ghost use Rattle.std.specs.Prelude.{◌≡◌, ◌+◌, ◌-◌, ◌<◌, ◌≤◌, ◌++◌, length, take, drop};
 ghost use Rattle.definition.specs.Look.{payload};
 ghost use Rattle.event.specs.Described.{read, described_by};
@@ -11,7 +14,7 @@ use lines::{part_of, unescape};
 use parts::{Part, at_most_16, pair_at, place};
 
 /// A part: its key's number, 0 where it has none, and where it stands.
-#[derive(Drop)]
+#[derive(Clone, Copy)]
 pub struct Slot {
     pub code: u32,
     pub at: u16,
@@ -19,7 +22,7 @@ pub struct Slot {
 }
 
 /// An event: the first `count` of `slots` are its values, in order. Of a `whole` event `text` is the text.
-#[derive(Drop)]
+#[derive(Clone, Copy)]
 pub struct Plain {
     pub kind: u32,
     pub tag: u32,
@@ -30,7 +33,7 @@ pub struct Plain {
 }
 
 /// An event's parts where they are written, and whether no part has an escape, so that what is written is what is read.
-#[derive(Drop)]
+#[derive(Clone, Copy)]
 pub struct Placed {
     pub plain: bool,
     pub parts: Plain,
@@ -48,7 +51,7 @@ impl Plain {
 }
 
 /// The first value of each key, by the key's number: 1 where it is there, and where it stands; zeros where it is not.
-#[derive(Drop)]
+#[derive(Clone, Copy)]
 pub struct Keyed {
     pub there: [u8; Plain::KEYS],
     pub at: [u16; Plain::KEYS],
@@ -56,7 +59,7 @@ pub struct Keyed {
 }
 
 /// What one walk over an event's values gives: the values by key, and how long all of them are together.
-#[derive(Drop)]
+#[derive(Clone, Copy)]
 pub struct Indexed {
     pub keyed: Keyed,
     pub total: usize,

@@ -1,8 +1,11 @@
 // What one event does, as numbers: a group for each table of the chart; and all that is seen of the store to decide it. The codes of plans, by name.
+
+#![tactic(auto)]
+
 use definition::{RegionId, StateId, TransitionId};
 
 /// A column that is given as one more than its new value: kept, or set to 1.
-#[derive(Drop)]
+#[derive(Clone, Copy)]
 pub struct Put {}
 
 impl Put {
@@ -12,7 +15,7 @@ impl Put {
 }
 
 /// Shapes of an element's texts: its attributes, or its text in the place of expr.
-#[derive(Drop)]
+#[derive(Clone, Copy)]
 pub struct Shape {}
 
 impl Shape {
@@ -22,7 +25,7 @@ impl Shape {
 }
 
 /// Texts of a state's row, one more than the shape: donedata begins empty, content in donedata.
-#[derive(Drop)]
+#[derive(Clone, Copy)]
 pub struct StateTexts {}
 
 impl StateTexts {
@@ -32,7 +35,7 @@ impl StateTexts {
 }
 
 /// Types of a transition.
-#[derive(Drop)]
+#[derive(Clone, Copy)]
 pub struct TransitionType {}
 
 impl TransitionType {
@@ -40,7 +43,7 @@ impl TransitionType {
 }
 
 /// The numbers of document 01 that a decision may refuse with.
-#[derive(Drop)]
+#[derive(Clone, Copy)]
 pub struct Refusal {}
 
 impl Refusal {
@@ -52,7 +55,7 @@ impl Refusal {
 }
 
 /// at: 1, or 0 where the row stays. root brings the element's texts with it.
-#[derive(Drop)]
+#[derive(Clone, Copy)]
 pub struct ChartPlan {
     pub at: u32,
     pub binding: u32,
@@ -61,7 +64,7 @@ pub struct ChartPlan {
 }
 
 /// One row, `at`. Every column is one more than its new value; texts is one more than the shape.
-#[derive(Drop)]
+#[derive(Clone, Copy)]
 pub struct StatePlan {
     pub at: StateId,
     pub texts: u32,
@@ -76,7 +79,7 @@ pub struct StatePlan {
 }
 
 /// A row added (number 0: none; texts 1: with the element's cond), and one that gets its content.
-#[derive(Drop)]
+#[derive(Clone, Copy)]
 pub struct TransitionPlan {
     pub number: TransitionId,
     pub doc: u32,
@@ -90,14 +93,14 @@ pub struct TransitionPlan {
 }
 
 /// Up to two regions, by their numbers.
-#[derive(Drop)]
+#[derive(Clone, Copy)]
 pub struct RegionPlan {
     pub one: RegionId,
     pub two: RegionId,
 }
 
 /// A row added (kind 0: none), and one altered: its else region, or its content (filled 1).
-#[derive(Drop)]
+#[derive(Clone, Copy)]
 pub struct EntryPlan {
     pub kind: u32,
     pub region: RegionId,
@@ -110,7 +113,7 @@ pub struct EntryPlan {
 }
 
 /// A row added (added 0: none), and one altered: its finalize, or its content (filled 1).
-#[derive(Drop)]
+#[derive(Clone, Copy)]
 pub struct InvokePlan {
     pub added: u32,
     pub state: StateId,
@@ -121,7 +124,7 @@ pub struct InvokePlan {
 }
 
 /// A row added (added 0: none), or one altered, with the shape.
-#[derive(Drop)]
+#[derive(Clone, Copy)]
 pub struct DatumPlan {
     pub added: u32,
     pub state: StateId,
@@ -130,14 +133,14 @@ pub struct DatumPlan {
 }
 
 /// kind 0: none.
-#[derive(Drop)]
+#[derive(Clone, Copy)]
 pub struct ParameterPlan {
     pub kind: u32,
     pub owner: u32,
 }
 
 /// list 0: none.
-#[derive(Drop)]
+#[derive(Clone, Copy)]
 pub struct MemberPlan {
     pub list: u32,
     pub owner: u32,
@@ -145,7 +148,7 @@ pub struct MemberPlan {
 }
 
 /// In this order: words (their number as value), the event's states as targets but for the first skip (owner 0: none), a member, another one.
-#[derive(Drop)]
+#[derive(Clone, Copy)]
 pub struct MembersPlan {
     pub words: MemberPlan,
     pub owner: u32,
@@ -155,14 +158,14 @@ pub struct MembersPlan {
 }
 
 /// The state and the transition that are current inside the element, if it is open afterwards.
-#[derive(Drop)]
+#[derive(Clone, Copy)]
 pub struct OpenPlan {
     pub state: StateId,
     pub transition: TransitionId,
 }
 
 /// kept of the open regions stay, then up to two come (tag 0: none).
-#[derive(Drop)]
+#[derive(Clone, Copy)]
 pub struct OpenRegionPlan {
     pub kept: u32,
     pub region: RegionId,
@@ -171,14 +174,14 @@ pub struct OpenRegionPlan {
     pub by: u32,
 }
 
-#[derive(Drop)]
+#[derive(Clone, Copy)]
 pub struct CounterPlan {
     pub current: RegionId,
     pub ids: u32,
     pub docs: u32,
 }
 
-#[derive(Drop)]
+#[derive(Clone, Copy)]
 pub struct Plan {
     pub chart: ChartPlan,
     pub states: StatePlan,
@@ -195,7 +198,7 @@ pub struct Plan {
 }
 
 /// A state as it is declared: its columns, and what it joins.
-#[derive(Drop)]
+#[derive(Clone, Copy)]
 pub struct Declared {
     pub parent: u32,
     pub parallel: u32,
@@ -205,7 +208,7 @@ pub struct Declared {
 }
 
 /// A region closed: met 0 where no region is current; kept of the open regions are left, and current goes on.
-#[derive(Drop)]
+#[derive(Clone, Copy)]
 pub struct Closing {
     pub met: u32,
     pub current: RegionId,
@@ -213,14 +216,14 @@ pub struct Closing {
 }
 
 /// The else walk: met 0 where a region has no if; at is the entry, 0 where the walk does not start.
-#[derive(Drop)]
+#[derive(Clone, Copy)]
 pub struct Walked {
     pub met: u32,
     pub at: u32,
 }
 
 /// All that is seen of the store.
-#[derive(Drop)]
+#[derive(Clone, Copy)]
 pub struct Seen {
     pub state: StateId,
     pub transition: TransitionId,
@@ -251,7 +254,7 @@ pub struct Seen {
 }
 
 /// What the event says, as numbers: the look without its texts and lists.
-#[derive(Drop)]
+#[derive(Clone, Copy)]
 pub struct Heard {
     pub kind: u32,
     pub tag: u32,

@@ -1,4 +1,7 @@
 // Bytes, numbers, names and lists as the program `chartlist` prints them, put into a lent buffer from the front. What does not fit is left out.
+
+#![tactic(auto)]
+
 ghost use Rattle.std.specs.Prelude.{◌≡◌, true, [], ◌∷◌, ◌++◌, ◌+◌, ◌%◌, ◌≤◌, ◌<◌, length, get_or, drop};
 ghost use Rattle.definition.specs.Text.{decimal};
 ghost use Rattle.definition.specs.Rows.{listed, same_list};

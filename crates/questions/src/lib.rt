@@ -1,4 +1,7 @@
 // Questions 1 and 2, over all that is lent.
+
+#![tactic(auto)]
+
 ghost use Rattle.std.specs.Prelude.{◌≡◌, ◌<◌, ◌^◌};
 ghost use Rattle.definition.specs.Limits.{limits01};
 ghost use Rattle.definition.specs.Reader.{long_enough, in_order};

@@ -1,1 +1,3 @@
 // Internal errors: none from the empty chart. Proofs only.
+
+#![tactic(auto)]

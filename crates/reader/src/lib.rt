@@ -1,5 +1,8 @@
 // The reader: an event, a stream of events, a row. Its functions can be called from C and Rust too, through a static library: a slice crosses as a pointer and
 // a count, a position by value.
+
+#![tactic(auto)]
+
 ghost use Rattle.std.specs.Prelude.{◌≡◌};
 ghost use Rattle.definition.specs.Limits.{limits01};
 ghost use Rattle.definition.specs.Reader as R;

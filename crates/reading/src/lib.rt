@@ -1,4 +1,7 @@
 // A row by kind and number, as it is read: questions 1, 2 and 16. For C, its bytes.
+
+#![tactic(auto)]
+
 ghost use Rattle.std.specs.Prelude.{◌≡◌, ◌&&◌, [], ◌++◌, ◌≤◌, ◌%◌, length, drop, eqb, ltb};
 ghost use Rattle.definition.specs.Limits.{limits01};
 ghost use Rattle.definition.specs.Rows.{row_of, num, with_cell};
@@ -37,7 +40,7 @@ pub const WIDTH: usize = 50;
 pub const BYTES: usize = 200;
 
 // Whose parameter it is.
-#[derive(Drop)]
+#[derive(Clone, Copy)]
 pub struct Reading {
     pub number: u32,
     pub row: [u32; WIDTH],

@@ -1,5 +1,8 @@
 // Document 01, module 6, Actions: the elements that have a region of their own, which are transition, onentry, onexit and finalize. From what is seen, by value, with
 // no table. `both_` is start and end as one event.
+
+#![tactic(auto)]
+
 ghost use Rattle.std.specs.Prelude.{◌≡◌, ◌<◌, suc};
 ghost use Rattle.plan.specs.Ids.{state_id};
 ghost use Rattle.plan.specs.Plans.{region_p, end_listed_p, passing, both_listed_p, end_finalize_p, both_finalize_p, transition_plan, start_transition_p, both_transition_p, end_transition_p};

@@ -1,4 +1,7 @@
 // Lent tables: the rows in use, cells, places, texts. Every read is total: past the end there is nothing, and a number there is 0.
+
+#![tactic(auto)]
+
 ghost use Rattle.std.specs.Prelude.{◌≡◌, ◌<◌, ◌^◌, take};
 ghost use Rattle.definition.specs.Rows.{row_of, num, text_from};
 ghost use Rattle.definition.specs.Actions.{place_of_number};

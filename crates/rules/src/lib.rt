@@ -1,4 +1,7 @@
 // Question 2, row by row: a row's test is one expression, and its proof computes the expression against the schema.
+
+#![tactic(auto)]
+
 ghost use Rattle.std.specs.Prelude.{◌≡◌};
 ghost use Rattle.definition.specs.Rows.{transition_columns, region_columns, datum_columns, parameter_columns, member_columns, opened_columns, open_region_columns, chart_columns, state_columns, invoke_columns, entry_columns};
 ghost use Rattle.columns.specs.Sees.{Rising, RowTest, RowsTest, columns8, columns24};

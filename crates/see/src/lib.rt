@@ -1,4 +1,7 @@
 // What is read of the tables for an event, as one value: the costly reads only for the elements that need them. Slices are the rows in use.
+
+#![tactic(auto)]
+
 ghost use Rattle.std.specs.Prelude.{◌≡◌, [], ◌&&◌, not, ◌+◌, ◌<◌, ◌≤◌, ◌^◌, length, get_or, drop, eqb, ltb};
 ghost use Rattle.definition.specs.Rows.{num, row_of};
 ghost use Rattle.definition.specs.Actions.{last_with, place_of_number};
@@ -355,7 +358,7 @@ fn default_for(tag: u32, joined: bool, p: StateId, s: StateId) -> u32
 }
 
 /// Children: of the current state, of the root, and of the state that begins. Each is a read of all members, so an event asks only for what its plan goes by.
-#[derive(Drop)]
+#[derive(Clone, Copy)]
 pub struct Family {
     pub first: StateId,
     pub child: StateId,

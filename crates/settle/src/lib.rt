@@ -1,4 +1,7 @@
 // The questions 5 to 15 of an event in form: the first no, or 0 and all that the event does. Nothing is written.
+
+#![tactic(auto)]
+
 ghost use Rattle.std.specs.Prelude.{◌≡◌, ◌<◌, ◌^◌};
 ghost use Rattle.definition.specs.Limits.{limits01};
 ghost use Rattle.plain.specs.Plain.{parsed_in};
@@ -20,7 +23,7 @@ use rows::{first_8, first_24, first_48, first_bytes, first_names};
 use see::see;
 
 /// number: 0, or the first no. The rest counts only with 0: what the event does, whether it draws a name, and what it takes of the text charge.
-#[derive(Drop)]
+#[derive(Clone, Copy)]
 pub struct Settled {
     pub number: u32,
     pub plan: Plan,

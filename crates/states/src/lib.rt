@@ -1,5 +1,8 @@
 // Document 01, module 5, States: scxml, state, parallel, final and history are declared, and at their end get a default initial; initial, donedata and data. From what is
 // seen, by value, with no table. `both_` is start and end as one event.
+
+#![tactic(auto)]
+
 ghost use Rattle.std.specs.Prelude.{◌≡◌, true, false, ◌<◌};
 ghost use Rattle.plan.specs.Plan.{planned};
 ghost use Rattle.plan.specs.Seen.{child_member};

@@ -1,4 +1,7 @@
 // The events of a stream, one after another.
+
+#![tactic(auto)]
+
 ghost use Rattle.std.specs.Prelude.{◌≡◌};
 ghost use Rattle.definition.specs.Limits.{limits01};
 ghost use Rattle.definition.specs.Reader as R;
@@ -13,7 +16,7 @@ use lines::part_of;
 
 /// number: 0, or the first no of the event that is refused; event: its place from 1, 0 where all are accepted; position: the one before it.
 #[repr(C)]
-#[derive(Drop)]
+#[derive(Clone, Copy)]
 pub struct Streamed {
     pub number: u32,
     pub event: usize,

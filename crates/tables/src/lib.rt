@@ -1,4 +1,7 @@
 // Rows written into lent tables as a plan says, those without texts of the event: regions, members named one by one, what is open. n rows are in use.
+
+#![tactic(auto)]
+
 ghost use Rattle.std.specs.Prelude.{◌≡◌, ◌<◌, set};
 ghost use Rattle.definition.specs.Change.{open_region_row};
 ghost use Rattle.plan.specs.After.{member_row, region_row};

@@ -1,4 +1,7 @@
 // The names that an event brings: rows of states for new ones, members for the targets. They are read from the text after the event: no list of references is kept.
+
+#![tactic(auto)]
+
 ghost use Rattle.std.specs.Prelude.{true, ◌≡◌, suc, ◌+◌, ◌^◌, ◌<◌, ◌≤◌, ◌∷◌, length, set, take};
 ghost use Rattle.definition.specs.Text.{bytes_at};
 ghost use Rattle.definition.specs.Rows.{cell_at};
@@ -75,7 +78,7 @@ fn count_after(count: usize, k: usize) -> usize
 }
 
 // How many rows of each table are in use.
-#[derive(Drop)]
+#[derive(Clone, Copy)]
 pub struct Rows {
     pub states: usize,
     pub members: usize,

@@ -1,4 +1,7 @@
 // Text: classes of bytes, equality, letter case, and the words that are read as a code.
+
+#![tactic(auto)]
+
 ghost use Rattle.std.specs.Prelude.{◌≡◌};
 ghost use Rattle.definition.specs.Text as T;
 ghost use Rattle.definition.specs.Text.{is_space, is_separator, bytes_at, lowered, is_true, place_in};

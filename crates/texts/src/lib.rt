@@ -1,4 +1,7 @@
 // The table of an event's texts: for each key where its value lies in the text after the event, and where the event's own text does.
+
+#![tactic(auto)]
+
 ghost use Rattle.std.specs.Prelude.{◌≡◌, ◌+◌, ◌<◌, ◌≤◌, length, replicate, take};
 ghost use Rattle.definition.specs.Rows.{cell_at, with_cell};
 ghost use Rattle.definition.specs.Look.{payload, text_loads};

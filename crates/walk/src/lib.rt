@@ -1,4 +1,7 @@
 // One walk over an event's lines: each part found, measured and told by its number, or the event out of form.
+
+#![tactic(auto)]
+
 ghost use Rattle.std.specs.Prelude.{◌≡◌, true, false, ◌&&◌, ◌||◌, ◌+◌, ◌^◌, ◌≤◌, ◌<◌, ltb, leb, length, drop};
 ghost use Rattle.definition.specs.Text.{str};
 ghost use Rattle.lines.specs.Lines.{has_head, event_length};
@@ -18,7 +21,7 @@ use lines::{
 use parts::{Heading, Pair, Part, clear, kind_of, no_part, put_pair, wide};
 
 // A part, and whether it is legible and within its limits.
-#[derive(Drop)]
+#[derive(Clone, Copy)]
 pub struct Found {
     pub ok: bool,
     pub part: Part,
@@ -88,7 +91,7 @@ fn part_by_code(code: u32, written: &[u8], at: usize, high: u32) -> Found
 }
 
 // A line: whether it is in form, the number of its kind, element or key, its part, and where the next line begins.
-#[derive(Drop)]
+#[derive(Clone, Copy)]
 pub struct Lined {
     pub ok: bool,
     pub code: u32,
@@ -214,7 +217,7 @@ fn text_line(stream: &[u8], at: usize) -> Lined
 }
 
 // The first event of a stream: what its lines have brought beside the attributes, and where it ends.
-#[derive(Drop)]
+#[derive(Clone, Copy)]
 pub struct Walk {
     pub walked: Heading,
     pub end: usize,
@@ -243,7 +246,7 @@ fn refuse(stream: &[u8], pairs: &mut [[u16; 8]]) -> Walk
 }
 
 // What follows the attributes, and where the event ends: `next` is 4 after a text and 2 without one, 5 where the event is out of form.
-#[derive(Drop)]
+#[derive(Clone, Copy)]
 pub struct Last {
     pub next: u32,
     pub text: Part,

@@ -1,4 +1,7 @@
 // An event's words as members of a list: a transition's events, the names of a send and of an invoke.
+
+#![tactic(auto)]
+
 ghost use Rattle.std.specs.Prelude.{◌≡◌, ◌+◌, ◌≤◌, length};
 ghost use Rattle.words.specs.Next.{parted_by, next_word};
 ghost use Rattle.fill.specs.Fill.{as_cell};

@@ -1,4 +1,7 @@
 // Words of a text, trimming, and what an event word loses at its end.
+
+#![tactic(auto)]
+
 ghost use Rattle.std.specs.Prelude.{◌≡◌, [], ◌∷◌, reverse, ◌+◌, ◌≤◌, length, drop, take};
 ghost use Rattle.definition.specs.Text as T;
 ghost use Rattle.definition.specs.Text.{is_space, is_separator, body_length, stripped, event_words};
@@ -7,13 +10,13 @@ ghost use Rattle.words.specs.Next.{parted_by, gap, run, next_word, as_span, goes
 use text::{is_separator, is_space};
 
 // From start up to end; both are the same where there is no word.
-#[derive(Drop)]
+#[derive(Clone, Copy)]
 pub struct Word {
     pub start: usize,
     pub end: usize,
 }
 
-#[derive(Drop)]
+#[derive(Clone, Copy)]
 pub struct Part {
     pub off: usize,
     pub len: usize,

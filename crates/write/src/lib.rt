@@ -1,4 +1,7 @@
 // All that an accepted event does, written. Nothing here can fail: what is asked of the caller is that the event gets 0.
+
+#![tactic(auto)]
+
 ghost use Rattle.std.specs.Prelude.{◌≡◌, ◌<◌, ◌≤◌, length};
 ghost use Rattle.definition.specs.Look.{kept_name};
 ghost use Rattle.plain.specs.Plain.{parsed_in};

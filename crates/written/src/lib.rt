@@ -1,4 +1,7 @@
 // Texts that the reader makes, written into a lent buffer: generated names, and an assign's text in quotes.
+
+#![tactic(auto)]
+
 ghost use Rattle.std.specs.Prelude.{◌≡◌, ◌+◌, ◌%◌, ◌≤◌, length};
 ghost use Rattle.std.proofs.lemmas.List.Edits.{sets};
 ghost use Rattle.definition.specs.Text.{decimal, generated_name, escaped_quotes, quoted};

@@ -1,0 +1,13 @@
+use Prim.Native.Nat.{◌+◌, ◌≤◌}
+use lib.ListN.{length}
+use native.Mathlib.Omega.{arith}
+use mathlib.Core.Path.{◌≡◌, refl, ◌∙◌}
+use Rattle.columns.specs.Sees.{zeros_from}
+use Rattle.columns.proofs.Columns.{zeros_more, zeros_stop, zeros_end}
+use Rattle.columns.proofs.zeros.Given as goal
+
+abbrev pub invariant-loop-left : goal.invariant-loop-left
+invariant-loop-left l = (l.at + l.left ≤ length l.row) × (zeros_from l.row l.at l.left ≡ zeros_from l.row l.from l.count)
+
+abbrev pub decreases-loop-left : goal.decreases-loop-left
+decreases-loop-left l = l.left

@@ -1,0 +1,5 @@
+use Rattle.decision.proofs.Laws.{up}
+use Rattle.decision.proofs.next_transition.Goals as goal
+
+pub returns : goal.returns
+returns c = up c.args.v.ids

@@ -1,0 +1,15 @@
+use Rattle.lines.proofs.LineLaws.{line_end}
+use Rattle.lines.proofs.BlockLaws.{line_past, ends_in_lem}
+use Rattle.lines.specs.Lines.{line_length}
+use lib.ListN.{length, drop}
+use borrow.Author.Tests.{not-true, not-false}
+use native.Mathlib.Omega.{arith}
+use mathlib.Core.Path.{◌≡◌, refl, sym, ◌∙◌}
+use Prim.Native.Nat.{◌+◌, ◌-◌, ◌≤◌}
+use Rattle.lines.proofs.line_end.Given as goal
+
+abbrev pub invariant-loop-i : goal.invariant-loop-i
+invariant-loop-i l = (l.i ≤ length l.raw) × (l.i + line_length (drop l.i l.raw) ≡ l.from + line_length (drop l.from l.raw))
+
+abbrev pub decreases-loop-i : goal.decreases-loop-i
+decreases-loop-i l = length l.raw - l.i

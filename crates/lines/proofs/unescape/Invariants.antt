@@ -1,0 +1,12 @@
+use Rattle.lines.proofs.EscapeLaws.{Unescaping, un_start, un_illegible, un_long, un_room, un_width, un_more, un_end, width_fits}
+use borrow.Author.Tests.{not-true, not-false}
+use lib.ListN.{length}
+use native.Mathlib.Omega.{arith}
+use Prim.Native.Nat.{◌≤◌, ◌-◌}
+use Rattle.lines.proofs.unescape.Given as goal
+
+abbrev pub invariant-loop-i : goal.invariant-loop-i
+invariant-loop-i l = Unescaping l.raw l.initial.out l.len l.out l.i l.n × (l.len ≤ length l.initial.out)
+
+abbrev pub decreases-loop-i : goal.decreases-loop-i
+decreases-loop-i l = length l.raw - l.i

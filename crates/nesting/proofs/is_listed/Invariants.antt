@@ -1,0 +1,14 @@
+use Rattle.definition.specs.Elements.{among}
+use Rattle.nesting.specs.Tables.{listed}
+use Rattle.nesting.proofs.Laws.{row_end, row_zero, row_here, row_next}
+use Prim.Native.Nat.{◌≤◌, ◌-◌}
+use mathlib.Core.Path.{◌≡◌, refl, sym, ◌∙◌}
+use lib.ListN.{drop}
+use native.Mathlib.Omega.{arith}
+use Rattle.nesting.proofs.is_listed.Given as goal
+
+abbrev pub invariant-loop-i : goal.invariant-loop-i
+invariant-loop-i l = (l.i ≤ 7) × (among l.parent (listed (drop l.i l.row)) ≡ among l.parent (listed l.row))
+
+abbrev pub decreases-loop-i : goal.decreases-loop-i
+decreases-loop-i l = 7 - l.i

@@ -1,0 +1,16 @@
+use borrow.Author.Tests.{not-true, not-false}
+use mathlib.Core.Path.{◌≡◌, refl, ◌∙◌}
+use Prim.Native.Nat.{◌-◌, ◌≤◌}
+use lib.ListN.{length, drop, replicate}
+use Rattle.definition.specs.Rules.{rows_keep}
+use Rattle.definition.specs.Rows.{Store, free}
+use Rattle.columns.specs.Sees.{Sees}
+use Rattle.columns.proofs.Columns.{rows_more, rows_stop, rows_end}
+use Rattle.order.proofs.names_keep.Given as goal
+
+abbrev pub invariant-loop-i : goal.invariant-loop-i
+invariant-loop-i l =
+    (l.i ≤ length l.table) × ((s : Store) → Sees s l.k l.transitions l.regions → rows_keep s (replicate 64 free) (drop l.i l.table) ≡ rows_keep s (replicate 64 free) l.table)
+
+abbrev pub decreases-loop-i : goal.decreases-loop-i
+decreases-loop-i l = length l.table - l.i

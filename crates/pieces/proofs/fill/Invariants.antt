@@ -1,0 +1,10 @@
+use mathlib.Core.Path.{◌≡◌, refl}
+use Prim.Native.Nat.{◌-◌}
+use lib.ListN.{length}
+use Rattle.pieces.proofs.fill.Given as goal
+
+abbrev pub invariant-loop-input : goal.invariant-loop-input
+invariant-loop-input l = length l.buffer ≡ length l.initial.buffer
+
+abbrev pub decreases-loop-input : goal.decreases-loop-input
+decreases-loop-input l = length l.buffer - l.input.held

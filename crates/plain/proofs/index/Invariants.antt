@@ -1,0 +1,11 @@
+use lib.ListN.{length-map}
+use mathlib.Core.Path.{refl}
+use native.Mathlib.Omega.{arith}
+use Rattle.plain.proofs.KeyLaws.{Indexing, indexing_start, indexing_more, indexing_end}
+use Rattle.plain.proofs.index.Given as goal
+
+abbrev pub invariant-loop-i : goal.invariant-loop-i
+invariant-loop-i l = Indexing l.src l.slots l.count l.there l.at l.len l.total l.i
+
+abbrev pub decreases-loop-i : goal.decreases-loop-i
+decreases-loop-i l = l.i

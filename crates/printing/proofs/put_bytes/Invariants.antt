@@ -1,0 +1,12 @@
+use Rattle.printing.proofs.Laws.{begun, goes_on, ended, drop_first}
+use Rattle.printing.specs.Added.{Begun}
+use Prim.Native.Nat.{◌≤◌, ◌-◌}
+use mathlib.Core.Path.{◌≡◌, refl, ◌∙◌}
+use lib.ListN.{length, drop, drop_of_length-le}
+use Rattle.printing.proofs.put_bytes.Given as goal
+
+abbrev pub invariant-loop-i : goal.invariant-loop-i
+invariant-loop-i l = ((l.i ≤ length l.w) × (length l.out ≡ length l.initial.out)) × ((l.p ≤ length l.out) × Begun l.initial.out l.at l.out l.p (drop l.i l.w) l.w)
+
+abbrev pub decreases-loop-i : goal.decreases-loop-i
+decreases-loop-i l = length l.w - l.i

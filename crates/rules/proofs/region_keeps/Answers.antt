@@ -1,0 +1,12 @@
+use Rattle.columns.proofs.Columns.{all, columns_all, spares_all}
+use Rattle.definition.specs.Rows.{region_columns}
+use native.Mathlib.Omega.{arith}
+use lib.Dec.{leb-zero}
+use Rattle.definition.specs.Elements.{among}
+use Rattle.definition.specs.Rules.{keeps, chosen, is_row, is_row_or_zero, has_own_number, following}
+use Rattle.definition.proofs.Base.{and_true}
+use Rattle.rules.proofs.region_keeps.Goals as goal
+
+pub returns : goal.returns
+unfolding region_columns all keeps chosen is_row is_row_or_zero has_own_number among following
+returns c = λ s e. rw (columns_all s c.args.row region_columns (omega (arith, c.well_formed.0.1)), spares_all s c.args.row 1 7) (simp (and_true, leb-zero, c.zeros.ensures, e.ids))

@@ -1,0 +1,16 @@
+use borrow.Author.Tests.{not-true, not-false}
+use mathlib.Core.Path.{◌≡◌, refl, ◌∙◌}
+use Prim.Native.Nat.{◌-◌, ◌≤◌}
+use lib.ListN.{length, drop}
+use Rattle.definition.specs.Rules.{rows_keep}
+use Rattle.definition.specs.Rows.{Store, entry_columns}
+use Rattle.columns.specs.Sees.{Sees}
+use Rattle.columns.proofs.Columns.{rows_more, rows_stop, rows_end}
+use Rattle.rules.proofs.rows_keep_48.Given as goal
+
+abbrev pub invariant-loop-i : goal.invariant-loop-i
+invariant-loop-i l =
+    (l.i ≤ length l.table) × ((s : Store) → Sees s l.k l.transitions l.regions → rows_keep s entry_columns (drop l.i l.table) ≡ rows_keep s entry_columns l.table)
+
+abbrev pub decreases-loop-i : goal.decreases-loop-i
+decreases-loop-i l = length l.table - l.i

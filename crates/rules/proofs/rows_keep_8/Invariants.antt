@@ -1,0 +1,16 @@
+use borrow.Author.Tests.{not-true, not-false}
+use mathlib.Core.Path.{◌≡◌, refl, ◌∙◌}
+use Prim.Native.Nat.{◌-◌, ◌≤◌}
+use lib.ListN.{length, drop}
+use Rattle.definition.specs.Rules.{rows_keep}
+use Rattle.definition.specs.Rows.{Store}
+use Rattle.columns.specs.Sees.{Sees, columns8}
+use Rattle.columns.proofs.Columns.{rows_more, rows_stop, rows_end}
+use Rattle.rules.proofs.rows_keep_8.Given as goal
+
+abbrev pub invariant-loop-i : goal.invariant-loop-i
+invariant-loop-i l =
+    (l.i ≤ length l.table) × ((s : Store) → Sees s l.k l.transitions l.regions → rows_keep s (columns8 l.which) (drop l.i l.table) ≡ rows_keep s (columns8 l.which) l.table)
+
+abbrev pub decreases-loop-i : goal.decreases-loop-i
+decreases-loop-i l = length l.table - l.i

@@ -1,0 +1,13 @@
+use Rattle.see.proofs.Nexts.{with_here, with_later, with_none}
+use Rattle.see.specs.Scans.{first_with}
+use native.Mathlib.Omega.{arith}
+use mathlib.Core.Path.{◌≡◌, refl}
+use Prim.Native.Nat.{◌+◌, ◌-◌, ◌≤◌}
+use lib.ListN.{length, drop}
+use Rattle.see.proofs.next_near.Given as goal
+
+abbrev pub invariant-loop-i : goal.invariant-loop-i
+invariant-loop-i l = (l.i ≤ length l.members) × (l.i + first_with l.c l.v (drop l.i l.members) ≡ l.from + first_with l.c l.v (drop l.from l.members))
+
+abbrev pub decreases-loop-i : goal.decreases-loop-i
+decreases-loop-i l = length l.members - l.i

@@ -1,0 +1,9 @@
+use Rattle.plan.specs.After.{member_row}
+use mathlib.Core.Path.{refl, sym, ap, ap₂, ◌∙◌}
+use native.Mathlib.Omega.{arith}
+use Rattle.tables.proofs.member_row.Goals as goal
+
+-- src/lib.rt:101:1
+pub returns : goal.returns
+unfolding member_row
+returns c = refl

@@ -1,0 +1,28 @@
+use mathlib.Core.Path.{◌∙◌, ap}
+use mathlib.Core.List.{List}
+use lib.ListN.{take}
+use Prim.Native.Nat.{ℕ}
+use Rattle.plain.specs.Plain.{loads_in}
+use Rattle.fill.specs.Fill.{as_cell}
+use Rattle.texts.specs.Texts.{texts_in}
+use Rattle.texts.proofs.EventLaws.{ended_values, ended_text, ended_small, texts_all}
+use Rattle.texts.proofs.texts_of.Goals as goal
+
+pub value_texts-requires : goal.value_texts-requires
+value_texts-requires c = ended_values c.args.src.now c.args.p c.args.base c.args.e c.requires.1
+
+pub put_own-requires : goal.put_own-requires
+put_own-requires c = ended_text c.args.src.now c.args.p c.args.base c.args.e c.requires.1 _ c.bytes_of-text.ensures.result_value
+
+pub trimmed_cell-a-requires : goal.trimmed_cell-a-requires
+trimmed_cell-a-requires c = ended_small c.args.src.now c.args.p c.args.base c.args.e c.requires.1 _ c.bytes_of-text.ensures.result_value
+
+pub quoted_cell-q-requires : goal.quoted_cell-q-requires
+quoted_cell-q-requires c = ended_text c.args.src.now c.args.p c.args.base c.args.e c.requires.1 _ c.bytes_of-text.ensures.result_value
+
+pub trimmed_cell-c-requires : goal.trimmed_cell-c-requires
+trimmed_cell-c-requires c = ended_small c.args.src.now c.args.p c.args.base c.args.e c.requires.1 _ c.bytes_of-text.ensures.result_value
+
+pub returns : goal.returns
+unfolding as_cell
+returns c = texts_all c.args.src.now c.args.p c.args.base c.args.e c.requires.1 _ c.bytes_of-text.ensures.result_value c.args.made _ _ _ _ _ _ _ (c.value_texts.ensures ∙ ap (texts_in c.args.base (loads_in c.args.src.now (take c.args.p.count c.args.p.slots))) c.requires.0) c.put_own.ensures c.put_made.ensures c.trimmed_cell-a.ensures c.quoted_cell-q.ensures c.trimmed_cell-c.ensures c.close_texts.ensures

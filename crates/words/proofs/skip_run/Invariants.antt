@@ -1,0 +1,12 @@
+use Rattle.words.specs.Next.{parted_by, run}
+use Rattle.words.proofs.Laws.{run_again, run_halt, run_end}
+use Prim.Native.Nat.{◌+◌, ◌-◌}
+use mathlib.Core.Path.{◌≡◌, refl, sym, ◌∙◌}
+use lib.ListN.{length, drop}
+use Rattle.words.proofs.skip_run.Given as goal
+
+abbrev pub invariant-loop-i : goal.invariant-loop-i
+invariant-loop-i l = l.i + run (parted_by l.events) (drop l.i l.v) ≡ l.from + run (parted_by l.events) (drop l.from l.v)
+
+abbrev pub decreases-loop-i : goal.decreases-loop-i
+decreases-loop-i l = length l.v - l.i

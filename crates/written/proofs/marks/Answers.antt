@@ -1,0 +1,13 @@
+use Rattle.written.proofs.Laws.{escape_length, escape_end}
+use Prim.Native.Nat.{◌≤◌, ◌+◌, ◌-◌}
+use mathlib.Core.Path.{◌≡◌, ap}
+use native.Mathlib.Omega.{arith}
+use lib.ListN.{length, drop}
+use Rattle.definition.specs.Text.{escaped_quotes}
+use Rattle.written.proofs.marks.Goals as goal
+
+pub loop-i-preserved : goal.loop-i-preserved
+loop-i-preserved c = omega (arith, escape_length c.args.w.now c.loop-i.i c.loop-i-test.true)
+
+pub returns : goal.returns
+returns c = let r = omega (arith, ap length (escape_end c.args.w.now c.loop-i.i c.loop-i-test.false)) in record { w_value = r.0; upper_bound = r.1 }
