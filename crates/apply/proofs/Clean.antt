@@ -60,15 +60,15 @@ module _ (l : Look) (p : Plan) (n : Position) (m count used pending : ℕ) (a b 
       ≡ over_all (applied m l p N).tables (tables_of a b c d e f i j ms o q r)
   unfolding applied_in applied over_all chart_in states_in members_after
   applied_clean z F =
-      let two = two_over p.members.one p.members.two n.members (listed l p used ms) ms (sym F.listed-members) (omega (arith, F.listed-members, F.members)) in
+      let two = two_over p.members.one p.members.two n.members (listed l p used ms) ms (sym F.listed_members) (omega (arith, F.listed_members, F.members)) in
       joined _ _ _ _ _ _ _ _ _ _ _ _ _ _ _ _ _ _ _ _ _ _ _ _
       (chart_clean l F.placed p.chart a F.chart.0 F.chart.1)
-      (states_clean l F.placed p.states count b F.state-texts F.states.0 F.states.1)
-      (transitions_clean l F.placed p.transitions n.transitions c F.transition-texts F.transitions.0 F.transitions.1)
+      (states_clean l F.placed p.states count b F.state_texts F.states.0 F.states.1)
+      (transitions_clean l F.placed p.transitions n.transitions c F.transition_texts F.transitions.0 F.transitions.1)
       (regions_clean p.regions n.regions d F.regions)
-      (entries_clean l F.placed p.entries n.entries e F.entry-texts F.entries.0 F.entries.1)
-      (invokes_clean l F.placed p.invokes n.invokes f F.invoke-texts F.invokes.0 F.invokes.1)
-      (datums_clean l F.placed p.datums n.datums i F.datum-texts F.datums.0 F.datums.1)
+      (entries_clean l F.placed p.entries n.entries e F.entry_texts F.entries.0 F.entries.1)
+      (invokes_clean l F.placed p.invokes n.invokes f F.invoke_texts F.invokes.0 F.invokes.1)
+      (datums_clean l F.placed p.datums n.datums i F.datum_texts F.datums.0 F.datums.1)
       (parameters_clean l F.placed p.parameters n.parameters j F.parameters)
       two
       (opened_clean m n.opened l p.opened o F.opened.0 F.opened.1)

@@ -4,36 +4,32 @@
 
 use definition::Position;
 use input::read_all;
-use libc::STDOUT_FILENO;
 use listing::{put_chart, put_refusal};
+use std::io;
+use std::io::{Stdout, Write};
 
-fn print(out: &[u8]) {
-    if !io::write_all(STDOUT_FILENO, out) {
-        os::fail(b"chartlist: standard output");
-    }
-}
-
-fn print_refusal(number: u32, event: u64) {
+fn print_refusal(mut to: Stdout, number: u32, event: u64) -> io::Result<()> {
     let mut out = [0u8; 64];
     let n = put_refusal(&mut out, number, event);
-    print(&out[..n]);
+    to.write_all(&out[..n])
 }
 
 // A chart within the limits needs some 201,600 bytes at most (docs/DECISIONS.md, 'Program').
 fn print_chart(
+    mut to: Stdout,
     charts: &[[u32; 24]],
     states: &[[u32; 24]],
     transitions: &[[u32; 8]],
     members: &[[u32; 8]],
     text: &[u8],
     p: Position,
-) {
+) -> io::Result<()> {
     let mut out = [0u8; 262144];
     let n = put_chart(&mut out, charts, states, transitions, members, text, p);
-    print(&out[..n]);
+    to.write_all(&out[..n])
 }
 
-fn main() {
+fn main(rt: HostRuntime) -> io::Result<()> {
     let mut chart = [[0u32; 24]; 1];
     let mut states = [[0u32; 24]; 256];
     let mut transitions = [[0u32; 8]; 512];
@@ -49,6 +45,7 @@ fn main() {
     let mut text = [0u8; 65535];
     let mut buffer = [0u8; 65536];
     let end = read_all(
+        rt.stdin(),
         &mut chart,
         &mut states,
         &mut transitions,
@@ -65,12 +62,10 @@ fn main() {
         &mut buffer,
     );
     if end.more | end.failed {
-        os::fail(b"chartlist: standard input");
-        return;
+        return Err(io::Error::other("chartlist: standard input"));
     }
     if end.number != 0 {
-        print_refusal(end.number, end.event);
-        return;
+        return print_refusal(rt.stdout(), end.number, end.event);
     }
-    print_chart(&chart, &states, &transitions, &members, &text, end.position);
+    print_chart(rt.stdout(), &chart, &states, &transitions, &members, &text, end.position)
 }

@@ -4,6 +4,7 @@
 
 use definition::{Position, RegionId};
 use pieces::{Piece, next_piece};
+use std::io::Stdin;
 use streams::Streamed;
 
 /// How far the input is read and fed.
@@ -91,6 +92,7 @@ fn fed(now: Reading, piece: Piece, s: Streamed) -> Reading {
 
 /// The whole input, up to the first refusal. A loop that is proved has to end, and nothing says that the input does: the turns are counted down from a number that no run uses up.
 pub fn read_all(
+    source: Stdin,
     chart: &mut [[u32; 24]],
     states: &mut [[u32; 24]],
     transitions: &mut [[u32; 8]],
@@ -110,7 +112,7 @@ pub fn read_all(
     let mut turns = u64::MAX;
     while now.more & (turns > 0) {
         turns -= 1;
-        let piece = next_piece(buffer, now.done, now.held);
+        let piece = next_piece(source, buffer, now.done, now.held);
         let end = piece.end;
         let s = reader::chart_stream(
             chart,

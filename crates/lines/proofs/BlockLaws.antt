@@ -1,7 +1,7 @@
 -- What passing blocks of bytes needs of the definitions: it is passing their bytes one by one.
 use Prim.Native.Nat.{ℕ, zero, suc, ◌+◌, ◌-◌, ◌≤◌, ◌<◌}
 use mathlib.Core.Path.{◌≡◌, refl, sym, ap, ◌∙◌, subst}
-use mathlib.Core.Bool.{Bool, true, false, ◌&&◌, not, and_assoc, and_true, and-eq-true_iff}
+use mathlib.Core.Bool.{Bool, true, false, ◌&&◌, not, and_assoc, and-true, and-eq-true_iff}
 use mathlib.Core.List.{List, [], ◌∷◌, ◌++◌}
 use native.Mathlib.Omega.{arith}
 use lib.Dec.{eqb}
@@ -22,7 +22,7 @@ use Rattle.lines.proofs.EscapeLaws.{width_plain, scan_more, scan_end}
 module _ (p : ℕ → Bool) where
   all_snoc : (l : List ℕ) (b : ℕ) → all p (l ++ b ∷ []) ≡ (all p l && p b)
   unfolding all
-  all_snoc [] b = and_true (p b)
+  all_snoc [] b = and-true (p b)
   all_snoc (a ∷ l) b = ap (λ (x : Bool). p a && x) (all_snoc l b) ∙ sym (and_assoc (p a) (all p l) (p b))
 
   module _ (s : List ℕ) (i : ℕ) where

@@ -41,11 +41,12 @@ high_first b bs e a = rw (e, unescape_from) (refused_prepend b (unescape_from fa
 
 pub newline_first : (b c : ℕ) (bs : List ℕ) → eqb b 92 ≡ true → eqb c 110 ≡ true → legible (b ∷ c ∷ bs) ≡ prepend 10 (legible bs)
 unfolding legible unescape_from is_allowed
-newline_first b c bs e f = rw (e, unescape_from, f, unescape_from) (allowed_prepend 10 (unescape_from false bs) refl)
+newline_first b c bs e f = rw (e, unescape_from) (ap (λ (x : Bool). if_allowed (elim x [ true ↦ prepend 10 (unescape_from false bs) | false ↦ elim (eqb c 92) [ true ↦ prepend 92 (unescape_from false bs) | false ↦ none ] ])) f ∙ allowed_prepend 10 (unescape_from false bs) refl)
 
 pub backslash_first : (b c : ℕ) (bs : List ℕ) → eqb b 92 ≡ true → eqb c 110 ≡ false → eqb c 92 ≡ true → legible (b ∷ c ∷ bs) ≡ prepend 92 (legible bs)
 unfolding legible unescape_from is_allowed
-backslash_first b c bs e f g = rw (e, unescape_from, f, unescape_from, g, unescape_from) (allowed_prepend 92 (unescape_from false bs) refl)
+backslash_first b c bs e f g = rw (e, unescape_from) (ap (λ (x : Bool). if_allowed (elim x [ true ↦ prepend 10 (unescape_from false bs) | false ↦ elim (eqb c 92) [ true ↦ prepend 92 (unescape_from false bs) | false ↦ none ] ])) f
+    ∙ ap (λ (x : Bool). if_allowed (elim x [ true ↦ prepend 92 (unescape_from false bs) | false ↦ none ])) g ∙ allowed_prepend 92 (unescape_from false bs) refl)
 
 pub other_first : (b c : ℕ) (bs : List ℕ) → eqb b 92 ≡ true → eqb c 110 ≡ false → eqb c 92 ≡ false → legible (b ∷ c ∷ bs) ≡ none
 unfolding legible unescape_from if_allowed
@@ -250,7 +251,7 @@ module _ (s o : List ℕ) (len : ℕ) (out : List ℕ) (i n : ℕ) (u : Unescapi
   un_room f = let l = left refl in omega (arith, l.counts, u.long)
 
   pub un_width : {k : ℕ} → k ≡ first_width (drop i s) → k ≡ 0 → ⊥
-  un_width e = (left e).some-width
+  un_width e = (left e).some_width
 
   pub un_more : {k b : ℕ} → k ≡ first_width (drop i s) → b ≡ first_byte (drop i s) → len ≤ length o → Unescaping s o len (set out n b) (i + k) (n + 1)
   unfolding counted

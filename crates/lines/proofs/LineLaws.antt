@@ -1,6 +1,6 @@
 -- What the loops over lines and heads need of the definitions, at a part of a list that starts at i.
 use mathlib.Core.Path.{◌≡◌, refl, sym, ap, ◌∙◌, subst}
-use mathlib.Core.Bool.{Bool, true, false, ◌&&◌, and_assoc, and_true, and-eq-true_iff}
+use mathlib.Core.Bool.{Bool, true, false, ◌&&◌, and_assoc, and-true, and-eq-true_iff}
 use mathlib.Core.Option.{none}
 use mathlib.Core.List.{List, [], ◌∷◌, ◌++◌, append-nil, append_assoc}
 use Prim.Native.Nat.{ℕ, suc, ◌+◌, ◌-◌, ◌≤◌, ◌<◌}
@@ -63,7 +63,7 @@ module _ (s : List ℕ) (i : ℕ) where
 
   compared_head : (h : List ℕ) (k : ℕ) (p : Bool) → i + k + length h ≤ length s → compared h k p ≡ (p && has_head h (drop (i + k) s))
   unfolding compared has_head after
-  compared_head [] k p l = sym (and_true p)
+  compared_head [] k p l = sym (and-true p)
   compared_head (x ∷ h) k p l =
       let z : i + suc k ≡ suc (i + k) = omega arith in
       compared_head h (suc k) (p && eqb (get_or s (i + k) 0) x) (omega arith)

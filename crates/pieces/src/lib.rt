@@ -5,8 +5,8 @@
 ghost use Rattle.std.specs.Prelude.{◌-◌, ◌≤◌, length, take, drop, ◌≡◌};
 ghost use Rattle.pieces.specs.Pieces.{Parted};
 
-use libc::STDIN_FILENO;
 use lines::next_event;
+use std::io::{Read, Stdin};
 
 // Where a stream's last event begins, and how many events stand before it.
 #[derive(Clone, Copy)]
@@ -52,22 +52,26 @@ struct Input {
     failed: bool,
 }
 
-fn read_once(buffer: &mut [u8], held: usize) -> Input
+fn read_once(mut source: Stdin, buffer: &mut [u8], held: usize) -> Input
     requires { held ≤ length buffer.old }
     ensures { result.held ≤ length buffer.new }
 {
-    let room = &mut buffer[held..];
-    let got = libc::read(STDIN_FILENO, room);
-    let n = io::count(got, room);
-    Input {
-        held: held + n,
-        ended: n == 0,
-        failed: got < 0,
+    match source.read(&mut buffer[held..]) {
+        Ok(n) => Input {
+            held: held + n,
+            ended: n == 0,
+            failed: false,
+        },
+        Err(_) => Input {
+            held: held,
+            ended: true,
+            failed: true,
+        },
     }
 }
 
 // Reads until the buffer is full, the input ends or a read fails.
-fn fill(buffer: &mut [u8], held: usize) -> Input
+fn fill(source: Stdin, buffer: &mut [u8], held: usize) -> Input
     ensures { result.held ≤ length buffer.new }
 {
     let mut input = Input {
@@ -77,7 +81,7 @@ fn fill(buffer: &mut [u8], held: usize) -> Input
     };
     while input.held < buffer.len() {
         let before = input.held;
-        input = read_once(buffer, before);
+        input = read_once(source, buffer, before);
         if input.held <= before {
             return input;
         }
@@ -157,11 +161,11 @@ fn keep(buffer: &mut [u8], done: usize, held: usize) -> usize {
 }
 
 /// The next piece of standard input, behind the first `done` of the `held` bytes in the buffer.
-pub fn next_piece(buffer: &mut [u8], done: usize, held: usize) -> Piece
+pub fn next_piece(source: Stdin, buffer: &mut [u8], done: usize, held: usize) -> Piece
     ensures { result.end ≤ length buffer.new }
 {
     let kept = keep(buffer, done, held);
-    let input = fill(buffer, kept);
+    let input = fill(source, buffer, kept);
     let n = input.held;
     cut(&buffer[..n], input)
 }

@@ -2,7 +2,7 @@
 use Prim.Native.Nat.{ℕ, ◌+◌, ◌≤◌, ◌<◌}
 use mathlib.Core.Path.{◌≡◌, refl, sym, ap, ap₂, ◌∙◌}
 use mathlib.Core.Bool.{Bool, true, false, ◌&&◌}
-use mathlib.Core.List.{List, [], ◌∷◌, ◌++◌, map, map_append}
+use mathlib.Core.List.{List, [], ◌∷◌, ◌++◌, map, map-append}
 use native.Mathlib.Numerals.{add-one}
 use native.Mathlib.Omega.{arith}
 use lib.ListN.{length, get_or, set, take, drop, length-set}
@@ -59,7 +59,7 @@ module _ (ps : List Pair) (c : ℕ) (len : length ps ≡ 16) (b₀ : Bool) where
           within = omega arith;
           size = length-set ss i s ∙ f.size;
           done =
-              rw (add-one, take-suc-set ss i s (omega (arith, f.size)), take-suc ps i no_pair (omega (arith, len)), map_append slot_of (take i ps) (get_or ps i no_pair ∷ []))
+              rw (add-one, take-suc-set ss i s (omega (arith, f.size)), take-suc ps i no_pair (omega (arith, len)), map-append slot_of (take i ps) (get_or ps i no_pair ∷ []))
               (ap₂ ◌++◌ f.done (ap (λ (x : Slot). x ∷ []) (es ∙ ap slot_of ep)));
           rest =
               ap (λ (x : Bool). (b && x) && all_plain (drop (i + 1) (take c ps))) (ea ∙ ap (λ (q : Pair). is_plain q.value) ep)

@@ -1,6 +1,6 @@
 -- state, parallel, final, history, scxml.
 use Prim.Native.Nat.{ℕ, zero, suc}
-use mathlib.Core.Path.{◌≡◌, refl, sym, ap, ◌∙◌}
+use mathlib.Core.Path.{◌≡◌, refl, sym, ap, subst, ◌∙◌}
 use mathlib.Core.Bool.{Bool, true, false}
 use mathlib.Core.List.{List, [], ◌∷◌, ◌++◌, reverse, reverse-reverse, append_assoc}
 use lib.ListN.{length, drop}
@@ -157,13 +157,31 @@ module _ (T : Tables) (c i d a e k : ℕ) (l₀ : Look) where
       by_declared 6 0 (to_open (el 6) n) 0 (λ z. altering (numbers 1) own (state.parent ≔ s ∷ state.history ≔ code_for (el 6) key.type shallow ∷ []) (in_history s (el 6) z))
       (λ b x. planned (declared_plan b (history_as s) (see 6) (heard (el 6)))) (history_as_lem s)
 
+  abbrev scxml_on : ℕ → Bool → Plan
+  scxml_on v b = on_chart (record { at = 1; binding = v; root = suc own; script = 0 }) (declared_plan b not_child (see 1) (heard (el 1)))
+
   abbrev scxml_as : Bool → Plan
-  scxml_as b = on_chart (record { at = 1; binding = binding_to (heard (el 1)); root = suc own; script = 0 }) (declared_plan b not_child (see 1) (heard (el 1)))
+  scxml_as b = scxml_on (binding_to (heard (el 1))) b
+
+  unbound : has (el 1) key.binding ≡ false → binding_to (heard (el 1)) ≡ 0
+  unfolding heard binding_to
+  unbound e = rw (e, binding_to)
+
+  bound : has (el 1) key.binding ≡ true → binding_to (heard (el 1)) ≡ suc (heard (el 1)).binding
+  unfolding heard binding_to
+  bound e = rw (e, binding_to)
+
+  scxml_bound : (b x : Bool) → has (el 1) key.binding ≡ true → Meets 0 (el 1) n (to_open (el 1) n) (done (altering (shape 0) 1 (chart.root ≔ own ∷ []) (binding (el 1) (declared_as b 0 x)))) (planned (scxml_on (suc (heard (el 1)).binding) b))
+  unfolding seen heard parent_to child_member binding not_child started verdict_of declared_plan declared_tables
+  scxml_bound b x e = rw (e, binding, edits_append, edits_append, declared_tables_lem 1 b 0 x, alter_alter, reverse-reverse rs, take-length rs)
+
+  scxml_unbound : (b x : Bool) → has (el 1) key.binding ≡ false → Meets 0 (el 1) n (to_open (el 1) n) (done (altering (shape 0) 1 (chart.root ≔ own ∷ []) (binding (el 1) (declared_as b 0 x)))) (planned (scxml_on 0 b))
+  unfolding seen heard parent_to child_member binding not_child started verdict_of declared_plan declared_tables
+  scxml_unbound b x e = rw (e, binding, edits_append, declared_tables_lem 1 b 0 x, reverse-reverse rs, take-length rs)
 
   scxml_as_lem : (w b x : Bool) → has (el 1) key.binding ≡ w → Meets 0 (el 1) n (to_open (el 1) n) (done (altering (shape 0) 1 (chart.root ≔ own ∷ []) (binding (el 1) (declared_as b 0 x)))) (planned (scxml_as b))
-  unfolding seen heard parent_to child_member binding binding_to not_child started verdict_of declared_plan declared_tables
-  scxml_as_lem true b x e = rw (e, binding, binding_to, edits_append, edits_append, declared_tables_lem 1 b 0 x, alter_alter, reverse-reverse rs, take-length rs)
-  scxml_as_lem false b x e = rw (e, binding, binding_to, edits_append, declared_tables_lem 1 b 0 x, reverse-reverse rs, take-length rs)
+  scxml_as_lem true b x e = subst (λ (v : ℕ). Meets 0 (el 1) n (to_open (el 1) n) (done (altering (shape 0) 1 (chart.root ≔ own ∷ []) (binding (el 1) (declared_as b 0 x)))) (planned (scxml_on v b))) (sym (bound e)) (scxml_bound b x e)
+  scxml_as_lem false b x e = subst (λ (v : ℕ). Meets 0 (el 1) n (to_open (el 1) n) (done (altering (shape 0) 1 (chart.root ≔ own ∷ []) (binding (el 1) (declared_as b 0 x)))) (planned (scxml_on v b))) (sym (unbound e)) (scxml_unbound b x e)
 
   pub start_scxml_lem : Meets 0 (el 1) n (to_open (el 1) n) (start_scxml n (el 1)) (scxml_p (see 1) (heard (el 1)))
   unfolding start_scxml scxml_p seen heard

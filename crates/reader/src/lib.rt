@@ -1,5 +1,4 @@
-// The reader: an event, a stream of events, a row. Its functions can be called from C and Rust too, through a static library: a slice crosses as a pointer and
-// a count, a position by value.
+// The reader: an event, a stream of events, a row. C and Rust call its functions through the static library of `reader_c`.
 
 #![tactic(auto)]
 
@@ -40,8 +39,7 @@ fn answer_of(s: Streamed) -> Answer
 }
 
 /// One event, as a stream of one: the questions 1 to 15. Nothing changes with a refusal.
-#[unsafe(no_mangle)]
-pub extern "C" fn chart_event(
+pub fn chart_event(
     chart: &mut [[u32; 24]],
     states: &mut [[u32; 24]],
     transitions: &mut [[u32; 8]],
@@ -101,8 +99,7 @@ pub extern "C" fn chart_event(
 }
 
 /// The events of a stream one after another, up to the first refusal. A stream without an event is asked nothing.
-#[unsafe(no_mangle)]
-pub extern "C" fn chart_stream(
+pub fn chart_stream(
     chart: &mut [[u32; 24]],
     states: &mut [[u32; 24]],
     transitions: &mut [[u32; 8]],
@@ -163,8 +160,7 @@ pub extern "C" fn chart_stream(
 }
 
 /// A row by kind and number, as bytes.
-#[unsafe(no_mangle)]
-pub extern "C" fn chart_read_row(
+pub fn chart_read_row(
     chart: &[[u32; 24]],
     states: &[[u32; 24]],
     transitions: &[[u32; 8]],

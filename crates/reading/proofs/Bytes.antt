@@ -61,6 +61,6 @@ module _ (old row : List ℕ) (enough : 200 ≤ length old) (wide : length row �
         let n3 : c * 4 + 3 ≡ suc (suc (suc (c * 4))) = omega arith in
         record {
           most = omega arith;
-          length_kept = simp length-set w.length-kept;
+          length_kept = simp length-set w.length_kept;
           is = rw (ea, eb, ed, ee, n1, n2, n3, w.is, add-one c) spread;
         }

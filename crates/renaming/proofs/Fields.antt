@@ -1,7 +1,7 @@
 -- Stage 1 over the loads of an event and of its partner: the same fields, in places that hold the texts in both; the names renamed, at the same places.
 use Prim.Native.Nat.{ℕ, suc, ◌+◌, ◌≤◌}
 use mathlib.Core.Path.{◌≡◌, refl, sym, ap, ap₂, ◌∙◌, subst, subst₂}
-use mathlib.Core.List.{List, [], ◌∷◌, ◌++◌, map, map_append, append_assoc}
+use mathlib.Core.List.{List, [], ◌∷◌, ◌++◌, map, map-append, append_assoc}
 use lib.ListN.{length, drop, length-append}
 use native.Mathlib.Omega.{arith}
 use Rattle.definition.specs.Text.{Span, bytes_at, no_separator, Piece, state_words_at}
@@ -69,13 +69,13 @@ module _ (ρ : List ℕ → List ℕ) (R : Total ρ) where
       ap₂ ◌++◌
       (ap (λ (k : ℕ). f (role_of g k) o j.bytes) h.key ∙ F (role_of g i.key) o i.bytes j.bytes h.bytes)
       (ap (λ (n : ℕ). names_from f g (o + n) js) (load_length g h) ∙ from-ρ f F g (o + length i.bytes) m)
-      ∙ sym (map_append (rename_piece ρ) (f (role_of g i.key) o i.bytes) (names_from f g (o + length i.bytes) is))
+      ∙ sym (map-append (rename_piece ρ) (f (role_of g i.key) o i.bytes) (names_from f g (o + length i.bytes) is))
 
   pub brought-ρ : (g o : ℕ) {is js : List Load} → LoadsRel ρ R g is js → names_brought g o js ≡ map (rename_piece ρ) (names_brought g o is)
   unfolding names_brought
   brought-ρ g o {is} {js} m =
       ap₂ ◌++◌ (from-ρ own_name own-ρ g o m) (from-ρ word_names words-ρ g o m)
-      ∙ sym (map_append (rename_piece ρ) (names_from own_name g o is) (names_from word_names g o is))
+      ∙ sym (map-append (rename_piece ρ) (names_from own_name g o is) (names_from word_names g o is))
 
   -- ---- in two texts that both hold the payload from o on
 

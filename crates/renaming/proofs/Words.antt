@@ -2,7 +2,7 @@
 use Prim.Native.Nat.{ℕ, suc, ◌+◌}
 use mathlib.Core.Path.{◌≡◌, refl, ◌∙◌}
 use mathlib.Core.Bool.{Bool, true, false}
-use mathlib.Core.List.{List, [], ◌∷◌, ◌++◌, map, map_append, append_assoc, append-nil}
+use mathlib.Core.List.{List, [], ◌∷◌, ◌++◌, map, map-append, append_assoc, append-nil}
 use lib.ListN.{length, length-append}
 use lib.Dec.{T}
 use native.Mathlib.Omega.{arith}
@@ -89,7 +89,7 @@ module _ (ρ : List ℕ → List ℕ) (R : Total ρ) where
           rw (rename_sep w b bs e, pieces_sep is_separator s w b bs e)
           (pieces_word s [] (ρ w) (b ∷ rename_words ρ [] bs) (ρ-no w t)
           ∙ pieces_sep is_separator s (ρ w) b (rename_words ρ [] bs) e
-          ∙ rw (R.len w, emit-ρ s w, ih (suc (s + length w)) [] tt, map_append (rename_piece ρ)))
+          ∙ rw (R.len w, emit-ρ s w, ih (suc (s + length w)) [] tt, map-append (rename_piece ρ)))
       go false e ih = rw (rename_in w b bs e, pieces_in_lem is_separator s w b bs e) (ih s (w ++ b ∷ []) (no_snoc w b t e))
 
   pub length_rename : (w v : List ℕ) → length (rename_words ρ w v) ≡ length w + length v

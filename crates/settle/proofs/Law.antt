@@ -148,7 +148,7 @@ module _ (p : Position) (a b c d f h i j k o y r : Table) (tx : List ℕ) (v : P
           datums = length-take-le p.datums i (omega (arith, Z.datums.0, Z.datums.1)) z;
           parameters = length-take-le p.parameters j (omega (arith, Z.parameters.0, Z.parameters.1)) z;
           members = length-take-le p.members k (omega (arith, Z.members.0, Z.members.1)) z;
-          open_regions = length-take-le p.open_regions r (omega (arith, Z.open-regions.0, Z.open-regions.1)) z;
+          open_regions = length-take-le p.open_regions r (omega (arith, Z.open_regions_lem.0, Z.open_regions_lem.1)) z;
           current = p.current;
           ids = p.ids;
           docs = p.docs;
@@ -171,7 +171,7 @@ module _ (p : Position) (a b c d f h i j k o y r : Table) (tx : List ℕ) (v : P
     pub short : (c' f' h' r' : Table) → c' ≡ take p.transitions c → f' ≡ take p.entries f → h' ≡ take p.invokes h → r' ≡ take p.open_regions r → Short c' f' h' r'
     unfolding store_of taken counts
     short c' f' h' r' ec ef eh er =
-        (omega (arith, ap length ec, F.transitions), omega (arith, ap length ef, F.entries), omega (arith, ap length eh, F.invokes), omega (arith, ap length er, F.open-regions))
+        (omega (arith, ap length ec, F.transitions), omega (arith, ap length ef, F.entries), omega (arith, ap length eh, F.invokes), omega (arith, ap length er, F.open_regions_lem))
 
     module _ (m : Looked) (em : m ≡ looked_in (take 1 a) (take p.states b) (take p.datums i) (take p.opened o) (take p.opened y) (take p.used tx) p v) where
       tells : Tells s l m

@@ -73,7 +73,7 @@ plain_head b bs e = go (is_plain b) refl
 unescaped_plain : (w : List ℕ) → all_plain w ≡ true → unescape_from false w ≡ some w
 unfolding unescape_from prepend
 unescaped_plain [] e = refl
-unescaped_plain (b ∷ bs) e = let p : Plain b bs = plain_head b bs e in rw (p.no-backslash, unescape_from) (ap (prepend b) (unescaped_plain bs p.rest))
+unescaped_plain (b ∷ bs) e = let p : Plain b bs = plain_head b bs e in rw (p.no_backslash, unescape_from) (ap (prepend b) (unescaped_plain bs p.rest))
 
 allowed_plain : (w : List ℕ) → all_plain w ≡ true → all_allowed w ≡ true
 unfolding all_allowed
@@ -98,10 +98,10 @@ written_plain w (b ∷ bs) p e = go (eqb b 92) refl (λ x. written_plain x bs)
   where
     -- An escape gives a byte that is not plain.
     escape : (c : ℕ) (x : List ℕ) → all_plain (c ∷ x) ≡ true → (eqb c 10 ≡ true) → b ∷ bs ≡ w
-    escape c x p e = true_is_false (sym e ∙ (plain_head c x p).no-newline)
+    escape c x p e = true_is_false (sym e ∙ (plain_head c x p).no_newline)
 
     backslash : (x : List ℕ) → all_plain (92 ∷ x) ≡ true → b ∷ bs ≡ w
-    backslash x p = true_is_false (plain_head 92 x p).no-backslash
+    backslash x p = true_is_false (plain_head 92 x p).no_backslash
 
     after : (cs : List ℕ) → unescape_from true cs ≡ some w → b ∷ bs ≡ w
     after [] f = none_is_some w f

@@ -317,7 +317,7 @@ module _ (raw : List ℕ) (d : Walked) (ats : List Attribute) (before : Before r
           subst (λ (c : Walked). Goal (walk ls c)) (sym w) (out (broken keyed) refl (λ p. omega (arith, p.room, before.count, room_out d.count t)))
       by_value x ek bk lk false r q t (no f) =
           let w : on_value at₂ (E.value v) keyed ≡ broken keyed = rw (q, on_value) in
-          subst (λ (c : Walked). Goal (walk ls c)) (sym w) (out (broken keyed) refl (λ p. f p.value_text p.value p.value-fits))
+          subst (λ (c : Walked). Goal (walk ls c)) (sym w) (out (broken keyed) refl (λ p. f p.value_text p.value p.value_fits_lem))
 
       by_key_lem : (p : Bool) → key_fits k ≡ p → Fits 1 64 (legible k) p → Goal (walk ls after)
       by_key_lem true q (yes x ek bk lk) =
@@ -326,7 +326,7 @@ module _ (raw : List ℕ) (d : Walked) (ats : List Attribute) (before : Before r
           (by_value x ek bk lk (value_fits v) (room_left d.count) refl refl (value_limits v))
       by_key_lem false q (no f) =
           let w : on_key at (E.key k) d ≡ broken d = rw (q, on_key) in
-          subst (λ (c : Walked). Goal (walk ls (step c.next at₂ (E.value v) c))) (sym w) (out (broken (broken d)) refl (λ p. f p.key_text p.key p.key_fits))
+          subst (λ (c : Walked). Goal (walk ls (step c.next at₂ (E.value v) c))) (sym w) (out (broken (broken d)) refl (λ p. f p.key_text p.key p.key_fits_lem))
 
 -- ---- the body
 

@@ -52,7 +52,7 @@ module _ (p : Position) (a b c d f h i j k o y r : Table) (tx : List ℕ) (v : P
 
     texts_are : t' ≡ texts_of (look s e).base (look s e).fields
     unfolding look
-    texts_are = W'.by_key ∙ F.texts_eq p a b c d f h i j k o y r tx e q Z A.within A.form A.differ A.plan
+    texts_are = W'.by_key_lem ∙ F.texts_eq p a b c d f h i j k o y r tx e q Z A.within A.form A.differ A.plan
 
     pub tables_done : (ts : List Table) (nl : ℕ) (row : Row) → row ≡ name_row (kept_name v.tag v.name) → nl ≡ length (kept_name v.tag v.name)
         → ts ≡ applied_in t' v.tag (move_of v.kind) nl row rows q a st' c d f h i j ms' o y r

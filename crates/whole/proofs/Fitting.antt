@@ -422,7 +422,7 @@ module _ (p : Position) (a b c d f h i j k o y r : Table) (tx : List ℕ) (e : E
               let kl : length (take q.pending.kept (take p.open_regions r)) ≡ q.pending.kept = length-take-le q.pending.kept (take p.open_regions r) A.kept in
               omega (
                 arith,
-                G.open-regions,
+                G.open_regions_lem,
                 added_length q.pending.by (open_region_row q.pending.inner.0 q.pending.by) (added_if q.pending.tag (open_region_row q.pending.region.0 q.pending.tag) (take q.pending.kept (take p.open_regions r))),
                 added_length q.pending.tag (open_region_row q.pending.region.0 q.pending.tag) (take q.pending.kept (take p.open_regions r)),
                 kl,
@@ -454,8 +454,8 @@ module _ (p : Position) (a b c d f h i j k o y r : Table) (tx : List ℕ) (e : E
                 members = omega (arith, listed_fits, Z.members.1);
                 opened = ((λ v. omega (arith, opened_room v, Z.opened.1)), omega (arith, Z.opened.0, Z.opened.1));
                 names = ((λ v. omega (arith, opened_room v, Z.names.1)), omega (arith, Z.names.0, Z.names.1));
-                kept = (omega (arith, A.kept, taken_length p.open_regions 64 r Z.open-regions), omega (arith, Z.open-regions.0, Z.open-regions.1));
-                pushed = omega (arith, regions_after_lem, Z.open-regions.1);
+                kept = (omega (arith, A.kept, taken_length p.open_regions 64 r Z.open_regions_lem), omega (arith, Z.open_regions_lem.0, Z.open_regions_lem.1));
+                pushed = omega (arith, regions_after_lem, Z.open_regions_lem.1);
               }
 
           -- THE TABLES AFTER AN ACCEPTED EVENT.

@@ -21,7 +21,7 @@ pub slice_bounds-chart_stream-end : goal.slice_bounds-chart_stream-end
 slice_bounds-chart_stream-end c = c.next_piece-piece.ensures
 
 pub slice_bounds-chart_stream-end-in-loop-now : goal.slice_bounds-chart_stream-end-in-loop-now
-slice_bounds-chart_stream-end-in-loop-now c = sym (length-take-le c.next_piece-piece.result.end c.next_piece-piece.new.0 c.next_piece-piece.ensures)
+slice_bounds-chart_stream-end-in-loop-now c = sym (length-take-le c.next_piece-piece.result.end c.next_piece-piece.new.buffer c.next_piece-piece.ensures)
 
 pub chart_stream-s-requires : goal.chart_stream-s-requires
 chart_stream-s-requires c = tt
@@ -33,7 +33,7 @@ pub loop-now-smaller : goal.loop-now-smaller
 loop-now-smaller c = omega (arith, some_left c.loop-now.now.more c.loop-now.turns c.loop-now-test.true)
 
 pub loop-now-preserved : goal.loop-now-preserved
-loop-now-preserved c = (c.chart_stream-s.auto.0 ∙ c.loop-now.invariant.0, (c.chart_stream-s.auto.1.0 ∙ c.loop-now.invariant.1.0, (c.chart_stream-s.auto.1.1.0 ∙ c.loop-now.invariant.1.1.0, (c.chart_stream-s.auto.1.1.1.0 ∙ c.loop-now.invariant.1.1.1.0, (c.chart_stream-s.auto.1.1.1.1.0 ∙ c.loop-now.invariant.1.1.1.1.0, (c.chart_stream-s.auto.1.1.1.1.1.0 ∙ c.loop-now.invariant.1.1.1.1.1.0, (c.chart_stream-s.auto.1.1.1.1.1.1.0 ∙ c.loop-now.invariant.1.1.1.1.1.1.0, (c.chart_stream-s.auto.1.1.1.1.1.1.1.0 ∙ c.loop-now.invariant.1.1.1.1.1.1.1.0, (c.chart_stream-s.auto.1.1.1.1.1.1.1.1.0 ∙ c.loop-now.invariant.1.1.1.1.1.1.1.1.0, (c.chart_stream-s.auto.1.1.1.1.1.1.1.1.1.0 ∙ c.loop-now.invariant.1.1.1.1.1.1.1.1.1.0, (c.chart_stream-s.auto.1.1.1.1.1.1.1.1.1.1.0 ∙ c.loop-now.invariant.1.1.1.1.1.1.1.1.1.1.0, (c.chart_stream-s.auto.1.1.1.1.1.1.1.1.1.1.1.0 ∙ c.loop-now.invariant.1.1.1.1.1.1.1.1.1.1.1.0, (c.chart_stream-s.auto.1.1.1.1.1.1.1.1.1.1.1.1.0 ∙ c.loop-now.invariant.1.1.1.1.1.1.1.1.1.1.1.1.0, c.next_piece-piece.auto.0 ∙ c.loop-now.invariant.1.1.1.1.1.1.1.1.1.1.1.1.1)))))))))))))
+loop-now-preserved c = (c.chart_stream-s.auto.chart ∙ c.loop-now.invariant.0, (c.chart_stream-s.auto.states ∙ c.loop-now.invariant.1.0, (c.chart_stream-s.auto.transitions ∙ c.loop-now.invariant.1.1.0, (c.chart_stream-s.auto.regions ∙ c.loop-now.invariant.1.1.1.0, (c.chart_stream-s.auto.entries ∙ c.loop-now.invariant.1.1.1.1.0, (c.chart_stream-s.auto.invokes ∙ c.loop-now.invariant.1.1.1.1.1.0, (c.chart_stream-s.auto.datums ∙ c.loop-now.invariant.1.1.1.1.1.1.0, (c.chart_stream-s.auto.parameters ∙ c.loop-now.invariant.1.1.1.1.1.1.1.0, (c.chart_stream-s.auto.members ∙ c.loop-now.invariant.1.1.1.1.1.1.1.1.0, (c.chart_stream-s.auto.opened ∙ c.loop-now.invariant.1.1.1.1.1.1.1.1.1.0, (c.chart_stream-s.auto.names ∙ c.loop-now.invariant.1.1.1.1.1.1.1.1.1.1.0, (c.chart_stream-s.auto.pending ∙ c.loop-now.invariant.1.1.1.1.1.1.1.1.1.1.1.0, (c.chart_stream-s.auto.text ∙ c.loop-now.invariant.1.1.1.1.1.1.1.1.1.1.1.1.0, c.next_piece-piece.auto.buffer ∙ c.loop-now.invariant.1.1.1.1.1.1.1.1.1.1.1.1.1)))))))))))))
 
 pub shape_of-chart : goal.shape_of-chart
 shape_of-chart c = c.loop-now.invariant.0

@@ -4,8 +4,8 @@ use Rattle.lines.specs.Blocks.{all, is_plain, is_text}
 use Rattle.lines.specs.Parts.{part}
 use lib.ListN.{length, drop}
 use native.Mathlib.Omega.{arith}
-use mathlib.Core.Bool.{true}
-use mathlib.Core.Path.{◌≡◌, refl, sym, ◌∙◌}
+use mathlib.Core.Bool.{not, true}
+use mathlib.Core.Path.{ap, ◌≡◌, refl, sym, ◌∙◌}
 use borrow.Author.Tests.{not-false}
 use Prim.Native.Nat.{◌+◌, ◌-◌, ◌≤◌}
 use Rattle.lines.proofs.skip_long.Goals as goal
@@ -37,7 +37,7 @@ returns-then-not-is_run_text-clause-plain c = c.loop-i.invariant.1.1
 
 pub loop-i-preserved : goal.loop-i-preserved
 loop-i-preserved c =
-    let e : all is_text (part c.args.raw.now c.loop-i.i 64) ≡ true = sym c.is_run_text.ensures ∙ not-false _ c.if-not-is_run_text.false in
+    let e : all is_text (part c.args.raw.now c.loop-i.i 64) ≡ true = sym c.is_run_text.ensures ∙ not-false _ (ap not c.if-not-is_run_text.false) in
     ((omega (arith, c.loop-i-test.true, c.loop-i.invariant.0.0), omega (arith, c.loop-i.invariant.0.1)), (line_past _ _ 64 (omega (arith, c.loop-i-test.true, c.loop-i.invariant.0.0)) (text_within _ e) ∙ c.loop-i.invariant.1.0, all_on is_plain _ _ _ 64 c.loop-i.invariant.0.1 c.loop-i.invariant.1.1 (text_plain _ e)))
 
 pub returns-clause-behind : goal.returns-clause-behind

@@ -1,3 +1,5 @@
+use mathlib.Core.Bool.{not}
+use mathlib.Core.Path.{ap}
 use Rattle.lines.proofs.EscapeLaws.{Unescaping, un_start, un_illegible, un_long, un_room, un_width, un_more, un_end, width_fits}
 use borrow.Author.Tests.{not-true, not-false}
 use lib.ListN.{length}
@@ -6,13 +8,13 @@ use Prim.Native.Nat.{◌≤◌, ◌-◌}
 use Rattle.lines.proofs.unescape.Goals as goal
 
 pub returns-then-not-ok : goal.returns-then-not-ok
-returns-then-not-ok c = let r = un_illegible _ _ _ c.scan_line-found.ensures (not-true _ c.if-not-ok.true) in record { value = r.0; out_after = r.1 }
+returns-then-not-ok c = let r = un_illegible _ _ _ c.scan_line-found.ensures (not-true _ (ap not c.if-not-ok.true)) in record { value = r.0; out_after = r.1 }
 
 pub returns-then-out-len : goal.returns-then-out-len
-returns-then-out-len c = let r = un_long _ _ _ c.scan_line-found.ensures (not-false _ c.if-not-ok.false) c.if-out-len.true in record { value = r.0; out_after = r.1 }
+returns-then-out-len c = let r = un_long _ _ _ c.scan_line-found.ensures (not-false _ (ap not c.if-not-ok.false)) c.if-out-len.true in record { value = r.0; out_after = r.1 }
 
 pub loop-i-init : goal.loop-i-init
-loop-i-init c = (un_start _ _ _ c.scan_line-found.ensures (not-false _ c.if-not-ok.false), omega arith)
+loop-i-init c = (un_start _ _ _ c.scan_line-found.ensures (not-false _ (ap not c.if-not-ok.false)), omega arith)
 
 pub bounds-out-n : goal.bounds-out-n
 bounds-out-n c = un_room _ _ _ _ _ _ c.loop-i.invariant.0 c.loop-i-test.true c.loop-i.invariant.1

@@ -1,7 +1,8 @@
+use mathlib.Core.Bool.{not}
 use native.Mathlib.Omega.{arith}
 use lib.ListN.{length, drop}
 use Prim.Native.Nat.{◌-◌, ◌≤◌}
-use mathlib.Core.Path.{◌≡◌, refl, ◌∙◌}
+use mathlib.Core.Path.{ap, ◌≡◌, refl, ◌∙◌}
 use borrow.Author.Tests.{not-true, not-false}
 use Rattle.definition.specs.Rules.{open_names_fit}
 use Rattle.definition.specs.Limits.{limits01}
@@ -16,10 +17,10 @@ pub loop-i-init : goal.loop-i-init
 loop-i-init c = (search rules, refl)
 
 pub returns-then-not-open_name_fits : goal.returns-then-not-open_name_fits
-returns-then-not-open_name_fits c = opened_stop c.args.opened.now c.args.names.now c.loop-i.i c.open_name_fits.ensures c.loop-i-test.true (omega arith) (not-true _ c.if-not-open_name_fits.true) ∙ c.loop-i.invariant.1
+returns-then-not-open_name_fits c = opened_stop c.args.opened.now c.args.names.now c.loop-i.i c.open_name_fits.ensures c.loop-i-test.true (omega arith) (not-true _ (ap not c.if-not-open_name_fits.true)) ∙ c.loop-i.invariant.1
 
 pub loop-i-preserved : goal.loop-i-preserved
-loop-i-preserved c = (search rules, opened_more c.args.opened.now c.args.names.now c.loop-i.i c.open_name_fits.ensures c.loop-i-test.true (omega arith) (not-false _ c.if-not-open_name_fits.false) ∙ c.loop-i.invariant.1)
+loop-i-preserved c = (search rules, opened_more c.args.opened.now c.args.names.now c.loop-i.i c.open_name_fits.ensures c.loop-i-test.true (omega arith) (not-false _ (ap not c.if-not-open_name_fits.false)) ∙ c.loop-i.invariant.1)
 
 pub returns : goal.returns
 returns c = opened_end c.args.opened.now c.args.names.now c.loop-i.i c.if-opened-names.false c.loop-i-test.false ∙ c.loop-i.invariant.1

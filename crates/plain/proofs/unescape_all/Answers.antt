@@ -15,19 +15,19 @@ copy_part-first-requires c = omega (arith, c.requires.space.fits)
 
 pub slot_at-name-requires : goal.slot_at-name-requires
 unfolding described_by
-slot_at-name-requires c = name_small c.args.raw.now (described_by c.args.d c.args.pairs.now) c.args.out.now c.requires.space c.text_of-dt.result c.text_of-dt.ensures c.copy_part-first.new.0 c.copy_part-first.result c.copy_part-first.ensures.out_after c.copy_part-first.ensures.value
+slot_at-name-requires c = name_small c.args.raw.now (described_by c.args.d c.args.pairs.now) c.args.out.now c.requires.space c.text_of-dt.result c.text_of-dt.ensures c.copy_part-first.new.out c.copy_part-first.result c.copy_part-first.ensures.out_after c.copy_part-first.ensures.value
 
 pub copy_part-second-requires : goal.copy_part-second-requires
 unfolding described_by
-copy_part-second-requires c = text_fits_lem c.args.raw.now (described_by c.args.d c.args.pairs.now) c.args.out.now c.requires.space c.text_of-dt.result c.text_of-dt.ensures c.copy_part-first.new.0 c.copy_part-first.result c.copy_part-first.ensures.out_after c.copy_part-first.ensures.value
+copy_part-second-requires c = text_fits_lem c.args.raw.now (described_by c.args.d c.args.pairs.now) c.args.out.now c.requires.space c.text_of-dt.result c.text_of-dt.ensures c.copy_part-first.new.out c.copy_part-first.result c.copy_part-first.ensures.out_after c.copy_part-first.ensures.value
 
 pub slot_at-text-requires : goal.slot_at-text-requires
 unfolding described_by
-slot_at-text-requires c = text_small c.args.raw.now (described_by c.args.d c.args.pairs.now) c.args.out.now c.requires.space c.text_of-dt.result c.text_of-dt.ensures c.copy_part-first.new.0 c.copy_part-first.result c.copy_part-first.ensures.out_after c.copy_part-first.ensures.value c.slot_at-name.result c.slot_at-name.ensures c.copy_part-second.new.0 c.copy_part-second.result c.copy_part-second.ensures.out_after c.copy_part-second.ensures.value
+slot_at-text-requires c = text_small c.args.raw.now (described_by c.args.d c.args.pairs.now) c.args.out.now c.requires.space c.text_of-dt.result c.text_of-dt.ensures c.copy_part-first.new.out c.copy_part-first.result c.copy_part-first.ensures.out_after c.copy_part-first.ensures.value c.slot_at-name.result c.slot_at-name.ensures c.copy_part-second.new.out c.copy_part-second.result c.copy_part-second.ensures.out_after c.copy_part-second.ensures.value
 
 pub loop-i-init : goal.loop-i-init
 unfolding described_by
-loop-i-init c = copying_start c.args.raw.now (described_by c.args.d c.args.pairs.now) c.args.out.now c.requires.space c.text_of-dt.result c.text_of-dt.ensures c.copy_part-first.new.0 c.copy_part-first.result c.copy_part-first.ensures.out_after c.copy_part-first.ensures.value c.slot_at-name.result c.slot_at-name.ensures c.copy_part-second.new.0 c.copy_part-second.result c.copy_part-second.ensures.out_after c.copy_part-second.ensures.value c.slot_at-text.result c.slot_at-text.ensures _ refl
+loop-i-init c = copying_start c.args.raw.now (described_by c.args.d c.args.pairs.now) c.args.out.now c.requires.space c.text_of-dt.result c.text_of-dt.ensures c.copy_part-first.new.out c.copy_part-first.result c.copy_part-first.ensures.out_after c.copy_part-first.ensures.value c.slot_at-name.result c.slot_at-name.ensures c.copy_part-second.new.out c.copy_part-second.result c.copy_part-second.ensures.out_after c.copy_part-second.ensures.value c.slot_at-text.result c.slot_at-text.ensures _ refl
 
 pub pair_at-p-requires : goal.pair_at-p-requires
 pair_at-p-requires c = omega (arith, c.requires.pairs_len)
@@ -43,8 +43,8 @@ loop-i-preserved c = copying_more c.args.raw.now (pairs_of c.args.pairs.now) c.a
 
 pub shape_of-out : goal.shape_of-out
 unfolding described_by
-shape_of-out c = size_end c.args.raw.now (described_by c.args.d c.args.pairs.now) c.args.out.now c.requires.space c.text_of-dt.result c.text_of-dt.ensures c.copy_part-first.new.0 c.copy_part-first.result c.copy_part-first.ensures.out_after c.copy_part-first.ensures.value c.slot_at-name.result c.slot_at-name.ensures c.copy_part-second.new.0 c.copy_part-second.result c.copy_part-second.ensures.out_after c.copy_part-second.ensures.value c.slot_at-text.result c.slot_at-text.ensures c.loop-i.out c.loop-i.slots c.loop-i.pos c.loop-i.i c.loop-i.invariant
+shape_of-out c = size_end c.args.raw.now (described_by c.args.d c.args.pairs.now) c.args.out.now c.requires.space c.text_of-dt.result c.text_of-dt.ensures c.copy_part-first.new.out c.copy_part-first.result c.copy_part-first.ensures.out_after c.copy_part-first.ensures.value c.slot_at-name.result c.slot_at-name.ensures c.copy_part-second.new.out c.copy_part-second.result c.copy_part-second.ensures.out_after c.copy_part-second.ensures.value c.slot_at-text.result c.slot_at-text.ensures c.loop-i.out c.loop-i.slots c.loop-i.pos c.loop-i.i c.loop-i.invariant
 
 pub returns : goal.returns
 unfolding described_by
-returns c = parsed_all c.args.raw.now (described_by c.args.d c.args.pairs.now) c.args.out.now c.requires.space c.text_of-dt.result c.text_of-dt.ensures c.copy_part-first.new.0 c.copy_part-first.result c.copy_part-first.ensures.out_after c.copy_part-first.ensures.value c.slot_at-name.result c.slot_at-name.ensures c.copy_part-second.new.0 c.copy_part-second.result c.copy_part-second.ensures.out_after c.copy_part-second.ensures.value c.slot_at-text.result c.slot_at-text.ensures c.loop-i.out c.loop-i.slots c.loop-i.pos c.loop-i.i c.loop-i.invariant (copied_all c.args.raw.now (pairs_of c.args.pairs.now) c.args.d.count (pairs_length c.args.pairs.now ∙ c.requires.pairs_len) _ _ _ _ _ c.loop-i.out c.loop-i.slots c.loop-i.pos c.loop-i.i c.loop-i.invariant (omega arith))
+returns c = parsed_all c.args.raw.now (described_by c.args.d c.args.pairs.now) c.args.out.now c.requires.space c.text_of-dt.result c.text_of-dt.ensures c.copy_part-first.new.out c.copy_part-first.result c.copy_part-first.ensures.out_after c.copy_part-first.ensures.value c.slot_at-name.result c.slot_at-name.ensures c.copy_part-second.new.out c.copy_part-second.result c.copy_part-second.ensures.out_after c.copy_part-second.ensures.value c.slot_at-text.result c.slot_at-text.ensures c.loop-i.out c.loop-i.slots c.loop-i.pos c.loop-i.i c.loop-i.invariant (copied_all c.args.raw.now (pairs_of c.args.pairs.now) c.args.d.count (pairs_length c.args.pairs.now ∙ c.requires.pairs_len) _ _ _ _ _ c.loop-i.out c.loop-i.slots c.loop-i.pos c.loop-i.i c.loop-i.invariant (omega arith))

@@ -7,7 +7,7 @@ use Rattle.definition.specs.Text.{decimal}
 use Rattle.printing.proofs.+put_number.Goals as goal
 
 pub put_byte-requires : goal.put_byte-requires
-put_byte-requires t c = c.requires.1
+put_byte-requires t c = c.requires
 
 pub shape_of-out-then-n-lt10 : goal.shape_of-out-then-n-lt10
 shape_of-out-then-n-lt10 t c = c.put_byte.ensures.long
@@ -16,7 +16,7 @@ pub returns-then-n-lt10 : goal.returns-then-n-lt10
 returns-then-n-lt10 t c = added_is (ap (λ (x : ℕ). x ∷ []) c.digit.ensures ∙ sym (decimal_one _ c.if-n-lt10.true)) c.put_byte.ensures
 
 pub put_number-p-requires : goal.put_number-p-requires
-put_number-p-requires t c = (omega arith, c.requires.1)
+put_number-p-requires t c = (omega arith, c.requires)
 
 pub put_byte-requires-2 : goal.put_byte-requires-2
 put_byte-requires-2 t c = c.put_number-p.ensures.within

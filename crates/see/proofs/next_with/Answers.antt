@@ -1,7 +1,8 @@
+use mathlib.Core.Bool.{not}
 use Rattle.see.proofs.Nexts.{block_past}
 use Rattle.see.specs.Scans.{first_with}
 use native.Mathlib.Omega.{arith}
-use mathlib.Core.Path.{◌≡◌, refl, ◌∙◌}
+use mathlib.Core.Path.{ap, ◌≡◌, refl, ◌∙◌}
 use Prim.Native.Nat.{◌+◌, ◌-◌, ◌≤◌}
 use lib.ListN.{length, drop}
 use Rattle.see.proofs.next_with.Goals as goal
@@ -16,7 +17,7 @@ pub returns-then-not-is_block_without-clause-upper_bound : goal.returns-then-not
 returns-then-not-is_block_without-clause-upper_bound c = c.next_near.ensures.upper_bound
 
 pub loop-i-preserved : goal.loop-i-preserved
-loop-i-preserved c = (omega (arith, c.loop-i-test.true, c.loop-i.invariant.0), block_past c.args.c c.args.v c.args.members.now c.loop-i.i 8 _ _ c.is_block_without.ensures c.if-not-is_block_without.false c.loop-i.invariant.1)
+loop-i-preserved c = (omega (arith, c.loop-i-test.true, c.loop-i.invariant.0), block_past c.args.c c.args.v c.args.members.now c.loop-i.i 8 _ _ c.is_block_without.ensures (ap not c.if-not-is_block_without.false) c.loop-i.invariant.1)
 
 pub returns-clause-value : goal.returns-clause-value
 returns-clause-value c = c.next_near-2.ensures.value ∙ c.loop-i.invariant.1

@@ -10,6 +10,9 @@ use mathlib.Core.Path.{◌≡◌, sym, ap, ◌∙◌}
 use Prim.Native.Nat.{ℕ, ◌≤◌}
 use Rattle.see.proofs.place_for.Goals as goal
 
+asked : (k g : ℕ) (b : Bool) → (not (ltb k 3) && eqb g 16) ≡ b → b ≡ (not (is_start k) && eqb g 16)
+asked k g b e = sym e ∙ ap (λ (x : Bool). not x && eqb g 16) (start_told k)
+
 pub overflow_cast-result : goal.overflow_cast-result
 overflow_cast-result c = let z : place_of_number c.args.transitions.now c.args.t.0 ≤ length c.args.transitions.now = place_le c.args.transitions.now c.args.t.0 in omega (arith, c.transition_place.ensures, c.requires)
 
@@ -20,6 +23,3 @@ returns-then-kind-tag c = c.transition_place.ensures ∙ ap (λ (b : Bool). numb
 pub returns : goal.returns
 unfolding number_if
 returns c = ap (λ (b : Bool). number_if b (place_of_number c.args.transitions.now c.args.t.0)) (asked c.args.kind c.args.tag _ c.if-kind-tag.false)
-
-asked : (k g : ℕ) (b : Bool) → (not (ltb k 3) && eqb g 16) ≡ b → b ≡ (not (is_start k) && eqb g 16)
-asked k g b e = sym e ∙ ap (λ (x : Bool). not x && eqb g 16) (start_told k)

@@ -19,6 +19,10 @@ decide-d-requires c = small_enough c.args.p c.args.chart.now c.args.states.now c
 pub first_of-number-requires : goal.first_of-number-requires
 first_of-number-requires c = brings c.args.p c.args.chart.now c.args.states.now c.args.transitions.now c.args.regions.now c.args.entries.now c.args.invokes.now c.args.datums.now c.args.parameters.now c.args.members.now c.args.opened.now c.args.names.now c.args.pending.now c.args.text.now (parsed_in c.args.src.now c.args.pl) c.requires _ (looked_as c.args.p c.args.chart.now c.args.states.now c.args.transitions.now c.args.regions.now c.args.entries.now c.args.invokes.now c.args.datums.now c.args.parameters.now c.args.members.now c.args.opened.now c.args.names.now c.args.pending.now c.args.text.now (parsed_in c.args.src.now c.args.pl) _ _ _ _ _ _ _ c.first_24-c.ensures c.first_24-s.ensures c.first_8.ensures c.first_8-w.ensures c.first_names.ensures c.first_bytes.ensures c.look-l.ensures) _ (seen_as c.args.p c.args.chart.now c.args.states.now c.args.transitions.now c.args.regions.now c.args.entries.now c.args.invokes.now c.args.datums.now c.args.parameters.now c.args.members.now c.args.opened.now c.args.names.now c.args.pending.now c.args.text.now (parsed_in c.args.src.now c.args.pl) _ _ _ _ _ _ _ _ _ _ _ _ c.first_24-c.ensures c.first_24-s.ensures c.first_8-2.ensures c.first_48.ensures c.first_24.ensures c.first_8-3.ensures c.first_8-w.ensures c.first_8-4.ensures c.see-v.ensures) _ c.decide-d.ensures
 
+-- src/lib.rt:126:17
+pub overflow_cast-result : goal.overflow_cast-result
+overflow_cast-result c = omega (arith, charge_small c.args.p c.args.chart.now c.args.states.now c.args.transitions.now c.args.regions.now c.args.entries.now c.args.invokes.now c.args.datums.now c.args.parameters.now c.args.members.now c.args.opened.now c.args.names.now c.args.pending.now c.args.text.now (parsed_in c.args.src.now c.args.pl) c.requires _ (looked_as c.args.p c.args.chart.now c.args.states.now c.args.transitions.now c.args.regions.now c.args.entries.now c.args.invokes.now c.args.datums.now c.args.parameters.now c.args.members.now c.args.opened.now c.args.names.now c.args.pending.now c.args.text.now (parsed_in c.args.src.now c.args.pl) _ _ _ _ _ _ _ c.first_24-c.ensures c.first_24-s.ensures c.first_8.ensures c.first_8-w.ensures c.first_names.ensures c.first_bytes.ensures c.look-l.ensures))
+
 -- src/lib.rt:68:1
 pub returns : goal.returns
 returns c = settles c.args.p c.args.chart.now c.args.states.now c.args.transitions.now c.args.regions.now c.args.entries.now c.args.invokes.now c.args.datums.now c.args.parameters.now c.args.members.now c.args.opened.now c.args.names.now c.args.pending.now c.args.text.now (parsed_in c.args.src.now c.args.pl) _ (looked_as c.args.p c.args.chart.now c.args.states.now c.args.transitions.now c.args.regions.now c.args.entries.now c.args.invokes.now c.args.datums.now c.args.parameters.now c.args.members.now c.args.opened.now c.args.names.now c.args.pending.now c.args.text.now (parsed_in c.args.src.now c.args.pl) _ _ _ _ _ _ _ c.first_24-c.ensures c.first_24-s.ensures c.first_8.ensures c.first_8-w.ensures c.first_names.ensures c.first_bytes.ensures c.look-l.ensures) _ (seen_as c.args.p c.args.chart.now c.args.states.now c.args.transitions.now c.args.regions.now c.args.entries.now c.args.invokes.now c.args.datums.now c.args.parameters.now c.args.members.now c.args.opened.now c.args.names.now c.args.pending.now c.args.text.now (parsed_in c.args.src.now c.args.pl) _ _ _ _ _ _ _ _ _ _ _ _ c.first_24-c.ensures c.first_24-s.ensures c.first_8-2.ensures c.first_48.ensures c.first_24.ensures c.first_8-3.ensures c.first_8-w.ensures c.first_8-4.ensures c.see-v.ensures) _ c.decide-d.ensures _ c.first_of-number.ensures

@@ -77,16 +77,16 @@ shape_of-text-then-d-ne0 c = c.loop-i.invariant.0.text
 
 pub returns-then-d-ne0 : goal.returns-then-d-ne0
 unfolding described_by
-returns-then-d-ne0 c = ends _ _ _ _ _ c.end.ensures (ran_stop (lent (tables c.args.chart.now c.args.states.now c.args.transitions.now c.args.regions.now c.args.entries.now c.args.invokes.now c.args.datums.now c.args.parameters.now c.args.members.now c.args.opened.now c.args.names.now c.args.pending.now) c.args.text.now) c.args.p c.args.bytes.now (lent (tables c.loop-i.chart c.loop-i.states c.loop-i.transitions c.loop-i.regions c.loop-i.entries c.loop-i.invokes c.loop-i.datums c.loop-i.parameters c.loop-i.members c.loop-i.opened c.loop-i.names c.loop-i.pending) c.loop-i.text) c.loop-i.q c.loop-i.i c.loop-i.n c.loop-i.invariant.1 c.loop-i-test.true _ c.describe_next-x.ensures.end _ c.part_of-raw.ensures _ _ _ (out_of (lent (tables c.loop-i.chart c.loop-i.states c.loop-i.transitions c.loop-i.regions c.loop-i.entries c.loop-i.invokes c.loop-i.datums c.loop-i.parameters c.loop-i.members c.loop-i.opened c.loop-i.names c.loop-i.pending) c.loop-i.text) c.loop-i.q c.part_of-raw.result.now (described_by c.describe_next-x.result.event c.describe_next-x.new.1.0) (taken_apart (lent (tables c.args.chart.now c.args.states.now c.args.transitions.now c.args.regions.now c.args.entries.now c.args.invokes.now c.args.datums.now c.args.parameters.now c.args.members.now c.args.opened.now c.args.names.now c.args.pending.now) c.args.text.now) c.args.p c.args.bytes.now (lent (tables c.loop-i.chart c.loop-i.states c.loop-i.transitions c.loop-i.regions c.loop-i.entries c.loop-i.invokes c.loop-i.datums c.loop-i.parameters c.loop-i.members c.loop-i.opened c.loop-i.names c.loop-i.pending) c.loop-i.text) c.loop-i.q c.loop-i.i c.loop-i.n c.loop-i.invariant.1 c.loop-i-test.true _ c.describe_next-x.ensures.end _ c.part_of-raw.ensures _ c.describe_next-x.ensures.event) c.if-d-ne0.true) c.if-d-ne0.true)
+returns-then-d-ne0 c = ends _ _ _ _ _ c.end.ensures (ran_stop (lent (tables c.args.chart.now c.args.states.now c.args.transitions.now c.args.regions.now c.args.entries.now c.args.invokes.now c.args.datums.now c.args.parameters.now c.args.members.now c.args.opened.now c.args.names.now c.args.pending.now) c.args.text.now) c.args.p c.args.bytes.now (lent (tables c.loop-i.chart c.loop-i.states c.loop-i.transitions c.loop-i.regions c.loop-i.entries c.loop-i.invokes c.loop-i.datums c.loop-i.parameters c.loop-i.members c.loop-i.opened c.loop-i.names c.loop-i.pending) c.loop-i.text) c.loop-i.q c.loop-i.i c.loop-i.n c.loop-i.invariant.1 c.loop-i-test.true _ c.describe_next-x.ensures.end _ c.part_of-raw.ensures _ _ _ (out_of (lent (tables c.loop-i.chart c.loop-i.states c.loop-i.transitions c.loop-i.regions c.loop-i.entries c.loop-i.invokes c.loop-i.datums c.loop-i.parameters c.loop-i.members c.loop-i.opened c.loop-i.names c.loop-i.pending) c.loop-i.text) c.loop-i.q c.part_of-raw.result.now (described_by c.describe_next-x.result.event c.describe_next-x.new.pairs) (taken_apart (lent (tables c.args.chart.now c.args.states.now c.args.transitions.now c.args.regions.now c.args.entries.now c.args.invokes.now c.args.datums.now c.args.parameters.now c.args.members.now c.args.opened.now c.args.names.now c.args.pending.now) c.args.text.now) c.args.p c.args.bytes.now (lent (tables c.loop-i.chart c.loop-i.states c.loop-i.transitions c.loop-i.regions c.loop-i.entries c.loop-i.invokes c.loop-i.datums c.loop-i.parameters c.loop-i.members c.loop-i.opened c.loop-i.names c.loop-i.pending) c.loop-i.text) c.loop-i.q c.loop-i.i c.loop-i.n c.loop-i.invariant.1 c.loop-i-test.true _ c.describe_next-x.ensures.end _ c.part_of-raw.ensures _ c.describe_next-x.ensures.event) c.if-d-ne0.true) c.if-d-ne0.true)
 
 pub slice_bounds-feed-end : goal.slice_bounds-feed-end
-slice_bounds-feed-end c = sym (c.describe_next-x.auto.1.0 ∙ c.loop-i.invariant.2)
+slice_bounds-feed-end c = sym (c.describe_next-x.auto.pairs ∙ c.loop-i.invariant.2)
 
 pub feed-a-requires-clause-p_value : goal.feed-a-requires-clause-p_value
 feed-a-requires-clause-p_value c = c.loop-i.invariant.1.asked
 
 pub feed-a-requires-clause-pairs_len : goal.feed-a-requires-clause-pairs_len
-feed-a-requires-clause-pairs_len c = c.describe_next-x.auto.1.0 ∙ c.loop-i.invariant.2
+feed-a-requires-clause-pairs_len c = c.describe_next-x.auto.pairs ∙ c.loop-i.invariant.2
 
 pub feed-a-requires-clause-pairs_value : goal.feed-a-requires-clause-pairs_value
 feed-a-requires-clause-pairs_value c = taken_apart (lent (tables c.args.chart.now c.args.states.now c.args.transitions.now c.args.regions.now c.args.entries.now c.args.invokes.now c.args.datums.now c.args.parameters.now c.args.members.now c.args.opened.now c.args.names.now c.args.pending.now) c.args.text.now) c.args.p c.args.bytes.now (lent (tables c.loop-i.chart c.loop-i.states c.loop-i.transitions c.loop-i.regions c.loop-i.entries c.loop-i.invokes c.loop-i.datums c.loop-i.parameters c.loop-i.members c.loop-i.opened c.loop-i.names c.loop-i.pending) c.loop-i.text) c.loop-i.q c.loop-i.i c.loop-i.n c.loop-i.invariant.1 c.loop-i-test.true _ c.describe_next-x.ensures.end _ c.part_of-raw.ensures _ c.describe_next-x.ensures.event
@@ -98,43 +98,43 @@ pub end-requires-then-a-ne0 : goal.end-requires-then-a-ne0
 end-requires-then-a-ne0 c = tt
 
 pub shape_of-chart-then-a-ne0 : goal.shape_of-chart-then-a-ne0
-shape_of-chart-then-a-ne0 c = c.feed-a.auto.0 ∙ c.loop-i.invariant.0.chart
+shape_of-chart-then-a-ne0 c = c.feed-a.auto.chart ∙ c.loop-i.invariant.0.chart
 
 pub shape_of-states-then-a-ne0 : goal.shape_of-states-then-a-ne0
-shape_of-states-then-a-ne0 c = c.feed-a.auto.1.0 ∙ c.loop-i.invariant.0.states
+shape_of-states-then-a-ne0 c = c.feed-a.auto.states ∙ c.loop-i.invariant.0.states
 
 pub shape_of-transitions-then-a-ne0 : goal.shape_of-transitions-then-a-ne0
-shape_of-transitions-then-a-ne0 c = c.feed-a.auto.1.1.0 ∙ c.loop-i.invariant.0.transitions
+shape_of-transitions-then-a-ne0 c = c.feed-a.auto.transitions ∙ c.loop-i.invariant.0.transitions
 
 pub shape_of-regions-then-a-ne0 : goal.shape_of-regions-then-a-ne0
-shape_of-regions-then-a-ne0 c = c.feed-a.auto.1.1.1.0 ∙ c.loop-i.invariant.0.regions
+shape_of-regions-then-a-ne0 c = c.feed-a.auto.regions ∙ c.loop-i.invariant.0.regions
 
 pub shape_of-entries-then-a-ne0 : goal.shape_of-entries-then-a-ne0
-shape_of-entries-then-a-ne0 c = c.feed-a.auto.1.1.1.1.0 ∙ c.loop-i.invariant.0.entries
+shape_of-entries-then-a-ne0 c = c.feed-a.auto.entries ∙ c.loop-i.invariant.0.entries
 
 pub shape_of-invokes-then-a-ne0 : goal.shape_of-invokes-then-a-ne0
-shape_of-invokes-then-a-ne0 c = c.feed-a.auto.1.1.1.1.1.0 ∙ c.loop-i.invariant.0.invokes
+shape_of-invokes-then-a-ne0 c = c.feed-a.auto.invokes ∙ c.loop-i.invariant.0.invokes
 
 pub shape_of-datums-then-a-ne0 : goal.shape_of-datums-then-a-ne0
-shape_of-datums-then-a-ne0 c = c.feed-a.auto.1.1.1.1.1.1.0 ∙ c.loop-i.invariant.0.datums
+shape_of-datums-then-a-ne0 c = c.feed-a.auto.datums ∙ c.loop-i.invariant.0.datums
 
 pub shape_of-parameters-then-a-ne0 : goal.shape_of-parameters-then-a-ne0
-shape_of-parameters-then-a-ne0 c = c.feed-a.auto.1.1.1.1.1.1.1.0 ∙ c.loop-i.invariant.0.parameters
+shape_of-parameters-then-a-ne0 c = c.feed-a.auto.parameters ∙ c.loop-i.invariant.0.parameters
 
 pub shape_of-members-then-a-ne0 : goal.shape_of-members-then-a-ne0
-shape_of-members-then-a-ne0 c = c.feed-a.auto.1.1.1.1.1.1.1.1.0 ∙ c.loop-i.invariant.0.members
+shape_of-members-then-a-ne0 c = c.feed-a.auto.members ∙ c.loop-i.invariant.0.members
 
 pub shape_of-opened-then-a-ne0 : goal.shape_of-opened-then-a-ne0
-shape_of-opened-then-a-ne0 c = c.feed-a.auto.1.1.1.1.1.1.1.1.1.0 ∙ c.loop-i.invariant.0.opened
+shape_of-opened-then-a-ne0 c = c.feed-a.auto.opened ∙ c.loop-i.invariant.0.opened
 
 pub shape_of-names-then-a-ne0 : goal.shape_of-names-then-a-ne0
-shape_of-names-then-a-ne0 c = c.feed-a.auto.1.1.1.1.1.1.1.1.1.1.0 ∙ c.loop-i.invariant.0.names
+shape_of-names-then-a-ne0 c = c.feed-a.auto.names ∙ c.loop-i.invariant.0.names
 
 pub shape_of-pending-then-a-ne0 : goal.shape_of-pending-then-a-ne0
-shape_of-pending-then-a-ne0 c = c.feed-a.auto.1.1.1.1.1.1.1.1.1.1.1.0 ∙ c.loop-i.invariant.0.pending
+shape_of-pending-then-a-ne0 c = c.feed-a.auto.pending ∙ c.loop-i.invariant.0.pending
 
 pub shape_of-text-then-a-ne0 : goal.shape_of-text-then-a-ne0
-shape_of-text-then-a-ne0 c = c.feed-a.auto.1.1.1.1.1.1.1.1.1.1.1.1.0 ∙ c.loop-i.invariant.0.text
+shape_of-text-then-a-ne0 c = c.feed-a.auto.text ∙ c.loop-i.invariant.0.text
 
 pub returns-then-a-ne0 : goal.returns-then-a-ne0
 returns-then-a-ne0 c = ends _ _ _ _ _ c.end-then-a-ne0.ensures (ran_stop (lent (tables c.args.chart.now c.args.states.now c.args.transitions.now c.args.regions.now c.args.entries.now c.args.invokes.now c.args.datums.now c.args.parameters.now c.args.members.now c.args.opened.now c.args.names.now c.args.pending.now) c.args.text.now) c.args.p c.args.bytes.now (lent (tables c.loop-i.chart c.loop-i.states c.loop-i.transitions c.loop-i.regions c.loop-i.entries c.loop-i.invokes c.loop-i.datums c.loop-i.parameters c.loop-i.members c.loop-i.opened c.loop-i.names c.loop-i.pending) c.loop-i.text) c.loop-i.q c.loop-i.i c.loop-i.n c.loop-i.invariant.1 c.loop-i-test.true _ c.describe_next-x.ensures.end _ c.part_of-raw.ensures _ _ _ c.feed-a.ensures c.if-a-ne0.true)
@@ -146,7 +146,7 @@ pub loop-i-smaller : goal.loop-i-smaller
 loop-i-smaller c = omega (arith, goes_on (lent (tables c.args.chart.now c.args.states.now c.args.transitions.now c.args.regions.now c.args.entries.now c.args.invokes.now c.args.datums.now c.args.parameters.now c.args.members.now c.args.opened.now c.args.names.now c.args.pending.now) c.args.text.now) c.args.p c.args.bytes.now (lent (tables c.loop-i.chart c.loop-i.states c.loop-i.transitions c.loop-i.regions c.loop-i.entries c.loop-i.invokes c.loop-i.datums c.loop-i.parameters c.loop-i.members c.loop-i.opened c.loop-i.names c.loop-i.pending) c.loop-i.text) c.loop-i.q c.loop-i.i c.loop-i.n c.loop-i.invariant.1 c.loop-i-test.true _ c.describe_next-x.ensures.end, c.loop-i-test.true)
 
 pub loop-i-preserved : goal.loop-i-preserved
-loop-i-preserved c = (record { chart = c.feed-a.auto.0 ∙ c.loop-i.invariant.0.chart; states = c.feed-a.auto.1.0 ∙ c.loop-i.invariant.0.states; transitions = c.feed-a.auto.1.1.0 ∙ c.loop-i.invariant.0.transitions; regions = c.feed-a.auto.1.1.1.0 ∙ c.loop-i.invariant.0.regions; entries = c.feed-a.auto.1.1.1.1.0 ∙ c.loop-i.invariant.0.entries; invokes = c.feed-a.auto.1.1.1.1.1.0 ∙ c.loop-i.invariant.0.invokes; datums = c.feed-a.auto.1.1.1.1.1.1.0 ∙ c.loop-i.invariant.0.datums; parameters = c.feed-a.auto.1.1.1.1.1.1.1.0 ∙ c.loop-i.invariant.0.parameters; members = c.feed-a.auto.1.1.1.1.1.1.1.1.0 ∙ c.loop-i.invariant.0.members; opened = c.feed-a.auto.1.1.1.1.1.1.1.1.1.0 ∙ c.loop-i.invariant.0.opened; names = c.feed-a.auto.1.1.1.1.1.1.1.1.1.1.0 ∙ c.loop-i.invariant.0.names; pending = c.feed-a.auto.1.1.1.1.1.1.1.1.1.1.1.0 ∙ c.loop-i.invariant.0.pending; text = c.feed-a.auto.1.1.1.1.1.1.1.1.1.1.1.1.0 ∙ c.loop-i.invariant.0.text }, ran_more (lent (tables c.args.chart.now c.args.states.now c.args.transitions.now c.args.regions.now c.args.entries.now c.args.invokes.now c.args.datums.now c.args.parameters.now c.args.members.now c.args.opened.now c.args.names.now c.args.pending.now) c.args.text.now) c.args.p c.args.bytes.now (lent (tables c.loop-i.chart c.loop-i.states c.loop-i.transitions c.loop-i.regions c.loop-i.entries c.loop-i.invokes c.loop-i.datums c.loop-i.parameters c.loop-i.members c.loop-i.opened c.loop-i.names c.loop-i.pending) c.loop-i.text) c.loop-i.q c.loop-i.i c.loop-i.n c.loop-i.invariant.1 c.loop-i-test.true _ c.describe_next-x.ensures.end _ c.part_of-raw.ensures _ _ _ c.feed-a.ensures c.if-a-ne0.false, c.describe_next-x.auto.1.0 ∙ c.loop-i.invariant.2)
+loop-i-preserved c = (record { chart = c.feed-a.auto.chart ∙ c.loop-i.invariant.0.chart; states = c.feed-a.auto.states ∙ c.loop-i.invariant.0.states; transitions = c.feed-a.auto.transitions ∙ c.loop-i.invariant.0.transitions; regions = c.feed-a.auto.regions ∙ c.loop-i.invariant.0.regions; entries = c.feed-a.auto.entries ∙ c.loop-i.invariant.0.entries; invokes = c.feed-a.auto.invokes ∙ c.loop-i.invariant.0.invokes; datums = c.feed-a.auto.datums ∙ c.loop-i.invariant.0.datums; parameters = c.feed-a.auto.parameters ∙ c.loop-i.invariant.0.parameters; members = c.feed-a.auto.members ∙ c.loop-i.invariant.0.members; opened = c.feed-a.auto.opened ∙ c.loop-i.invariant.0.opened; names = c.feed-a.auto.names ∙ c.loop-i.invariant.0.names; pending = c.feed-a.auto.pending ∙ c.loop-i.invariant.0.pending; text = c.feed-a.auto.text ∙ c.loop-i.invariant.0.text }, ran_more (lent (tables c.args.chart.now c.args.states.now c.args.transitions.now c.args.regions.now c.args.entries.now c.args.invokes.now c.args.datums.now c.args.parameters.now c.args.members.now c.args.opened.now c.args.names.now c.args.pending.now) c.args.text.now) c.args.p c.args.bytes.now (lent (tables c.loop-i.chart c.loop-i.states c.loop-i.transitions c.loop-i.regions c.loop-i.entries c.loop-i.invokes c.loop-i.datums c.loop-i.parameters c.loop-i.members c.loop-i.opened c.loop-i.names c.loop-i.pending) c.loop-i.text) c.loop-i.q c.loop-i.i c.loop-i.n c.loop-i.invariant.1 c.loop-i-test.true _ c.describe_next-x.ensures.end _ c.part_of-raw.ensures _ _ _ c.feed-a.ensures c.if-a-ne0.false, c.describe_next-x.auto.pairs ∙ c.loop-i.invariant.2)
 
 pub end-requires-2 : goal.end-requires-2
 end-requires-2 c = tt

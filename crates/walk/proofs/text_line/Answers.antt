@@ -1,10 +1,11 @@
+use mathlib.Core.Bool.{not}
 use Rattle.definition.specs.Text.{str}
 use Rattle.lines.specs.Blocks.{all, is_within_line}
 use Rattle.walk.proofs.LineIn.{behind_within}
 use Rattle.walk.proofs.TakesLaws.{ended_bounds, part_small, tail_all, head_open, text_takes}
 use borrow.Author.Tests.{not-true, not-false}
 use native.Mathlib.Omega.{arith}
-use mathlib.Core.Path.{refl, sym, ◌∙◌}
+use mathlib.Core.Path.{ap, refl, sym, ◌∙◌}
 use borrow.Author.Rules.{rules}
 use Rattle.walk.proofs.text_line.Goals as goal
 
@@ -14,26 +15,26 @@ overflow_add-from c = search (rules, behind_within (str "text=") refl c.args.str
 
 pub returns-then-not-is_ended : goal.returns-then-not-is_ended
 unfolding str all is_within_line
-returns-then-not-is_ended c = head_open c.args.stream.now c.no_line.result c.no_line.ensures c.args.at _ _ (str "text=") refl c.requires.stream_value c.tail_of_text-t.result.end c.tail_of_text-t.ensures.at (sym c.is_ended.ensures ∙ not-true _ c.if-not-is_ended.true)
+returns-then-not-is_ended c = head_open c.args.stream.now c.no_line.result c.no_line.ensures c.args.at _ _ (str "text=") refl c.requires.stream_value c.tail_of_text-t.result.end c.tail_of_text-t.ensures.at (sym c.is_ended.ensures ∙ not-true _ (ap not c.if-not-is_ended.true))
 
 pub slice_bounds-find_part-count : goal.slice_bounds-find_part-count
 slice_bounds-find_part-count c = omega (arith, c.tail_of_text-t.ensures.at)
 
 pub slice_bounds-find_part-end : goal.slice_bounds-find_part-end
-slice_bounds-find_part-end c = omega (arith, (ended_bounds c.args.stream.now c.tail_of_text-t.result.end (sym c.is_ended.ensures ∙ not-false _ c.if-not-is_ended.false)).0)
+slice_bounds-find_part-end c = omega (arith, (ended_bounds c.args.stream.now c.tail_of_text-t.result.end (sym c.is_ended.ensures ∙ not-false _ (ap not c.if-not-is_ended.false))).0)
 
 pub find_part-requires-clause-written_value : goal.find_part-requires-clause-written_value
 find_part-requires-clause-written_value c = tail_all _ _ c.tail_of_text-t.result c.tail_of_text-t.ensures.at c.tail_of_text-t.ensures.plain
 
 pub find_part-requires-clause-written_bound : goal.find_part-requires-clause-written_bound
-find_part-requires-clause-written_bound c = part_small _ _ _ (omega (arith, c.tail_of_text-t.ensures.at)) (sym c.is_ended.ensures ∙ not-false _ c.if-not-is_ended.false)
+find_part-requires-clause-written_bound c = part_small _ _ _ (omega (arith, c.tail_of_text-t.ensures.at)) (sym c.is_ended.ensures ∙ not-false _ (ap not c.if-not-is_ended.false))
 
 pub find_part-requires-clause-high_bound : goal.find_part-requires-clause-high_bound
 find_part-requires-clause-high_bound c = omega arith
 
 pub overflow_add-end : goal.overflow_add-end
-overflow_add-end c = search (rules, (ended_bounds c.args.stream.now c.tail_of_text-t.result.end (sym c.is_ended.ensures ∙ not-false _ c.if-not-is_ended.false)).1)
+overflow_add-end c = search (rules, (ended_bounds c.args.stream.now c.tail_of_text-t.result.end (sym c.is_ended.ensures ∙ not-false _ (ap not c.if-not-is_ended.false))).1)
 
 pub returns : goal.returns
 unfolding str
-returns c = text_takes c.args.stream.now c.args.at _ c.find_part.result 0 c.tail_of_text-t.result.end c.line_with.result (sym c.is_ended.ensures ∙ not-false _ c.if-not-is_ended.false) c.line_with.ensures c.requires.stream_value c.tail_of_text-t.ensures.at refl c.find_part.ensures
+returns c = text_takes c.args.stream.now c.args.at _ c.find_part.result 0 c.tail_of_text-t.result.end c.line_with.result (sym c.is_ended.ensures ∙ not-false _ (ap not c.if-not-is_ended.false)) c.line_with.ensures c.requires.stream_value c.tail_of_text-t.ensures.at refl c.find_part.ensures

@@ -1,5 +1,6 @@
+use mathlib.Core.Bool.{not}
 use borrow.Author.Tests.{not-true, not-false}
-use mathlib.Core.Path.{◌∙◌}
+use mathlib.Core.Path.{ap, ◌∙◌}
 use Rattle.walk.proofs.StepLaws.{event_lost, event_within, name_lost, name_reached}
 use Rattle.walk.proofs.walk_lines.Goals as goal
 
@@ -19,7 +20,7 @@ pub returns-then-not-n-clause-end : goal.returns-then-not-n-clause-end
 returns-then-not-n-clause-end c = c.refuse-then-not-n.ensures.end
 
 pub walk_pairs-requires : goal.walk_pairs-requires
-walk_pairs-requires c = let r = (c.requires, name_reached c.args.stream.now c.event_line-e.result c.event_line-e.ensures (not-false _ c.if-not-e.false) c.name_line-n.result c.name_line-n.ensures (not-false _ c.if-not-n.false)) in record { pairs_len = r.0; next_nonzero = r.1.0; reached = r.1.1 }
+walk_pairs-requires c = let r = name_reached c.args.stream.now c.event_line-e.result c.event_line-e.ensures (not-false _ c.if-not-e.false) c.name_line-n.result c.name_line-n.ensures (not-false _ c.if-not-n.false) in record { pairs_len = c.requires; next_nonzero = r.0; reached = r.1 }
 
 pub returns : goal.returns
-returns c = let r = (c.walk_pairs.ensures.lines, c.walk_pairs.ensures.end) in record { lines = r.0; end = r.1 }
+returns c = record { lines = c.walk_pairs.ensures.lines; end = c.walk_pairs.ensures.end }

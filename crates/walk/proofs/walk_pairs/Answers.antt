@@ -1,3 +1,4 @@
+use mathlib.Core.Bool.{not}
 use Prim.Native.Nat.{◌-◌, ◌<◌}
 use mathlib.Core.Path.{◌≡◌, sym, ap, subst, ◌∙◌}
 use mathlib.Core.List.{List}
@@ -16,7 +17,7 @@ pub clear-requires : goal.clear-requires
 clear-requires c = c.requires.pairs_len
 
 pub loop-k-init : goal.loop-k-init
-loop-k-init c = (c.clear.auto.0 ∙ c.requires.pairs_len, (c.requires.next_nonzero, subst (λ (ps : List Pair). Reached c.args.stream.now c.args.n.next (made c.args.kind c.args.n.code c.args.n.part 0 ps)) (sym c.clear.ensures) c.requires.reached))
+loop-k-init c = (c.clear.auto.pairs ∙ c.requires.pairs_len, (c.requires.next_nonzero, subst (λ (ps : List Pair). Reached c.args.stream.now c.args.n.next (made c.args.kind c.args.n.code c.args.n.part 0 ps)) (sym c.clear.ensures) c.requires.reached))
 
 pub begins_key-requires : goal.begins_key-requires
 begins_key-requires c = c.loop-k.invariant.1.1.within
@@ -31,7 +32,7 @@ pub refuse-requires : goal.refuse-requires
 refuse-requires c = c.loop-k.invariant.0
 
 pub shape_of-pairs-then-not-k : goal.shape_of-pairs-then-not-k
-shape_of-pairs-then-not-k c = c.refuse.auto.1.0 ∙ c.loop-k.invariant.0 ∙ sym c.requires.pairs_len
+shape_of-pairs-then-not-k c = c.refuse.auto.pairs ∙ c.loop-k.invariant.0 ∙ sym c.requires.pairs_len
 
 pub returns-then-not-k-clause-lines : goal.returns-then-not-k-clause-lines
 returns-then-not-k-clause-lines c = c.refuse.ensures.lines ∙ key_lost c.args.stream.now c.loop-k.at c.args.kind c.args.n.code c.args.n.part c.loop-k.count (pairs_of c.loop-k.pairs) c.loop-k.invariant.1.1 (sym c.begins_key.ensures ∙ c.loop-k-test.true) c.key_line-k.result c.key_line-k.ensures (not-true _ c.if-not-k.true)
@@ -46,7 +47,7 @@ pub refuse-requires-then-not-v : goal.refuse-requires-then-not-v
 refuse-requires-then-not-v c = c.loop-k.invariant.0
 
 pub shape_of-pairs-then-not-v : goal.shape_of-pairs-then-not-v
-shape_of-pairs-then-not-v c = c.refuse-then-not-v.auto.1.0 ∙ c.loop-k.invariant.0 ∙ sym c.requires.pairs_len
+shape_of-pairs-then-not-v c = c.refuse-then-not-v.auto.pairs ∙ c.loop-k.invariant.0 ∙ sym c.requires.pairs_len
 
 pub returns-then-not-v-clause-lines : goal.returns-then-not-v-clause-lines
 returns-then-not-v-clause-lines c = c.refuse-then-not-v.ensures.lines ∙ value_lost c.args.stream.now c.loop-k.at c.args.kind c.args.n.code c.args.n.part c.loop-k.count (pairs_of c.loop-k.pairs) c.loop-k.invariant.1.1 (sym c.begins_key.ensures ∙ c.loop-k-test.true) c.key_line-k.result c.key_line-k.ensures (not-false _ c.if-not-k.false) c.value_line-v.result c.value_line-v.ensures (not-true _ c.if-not-v.true)
@@ -58,7 +59,7 @@ pub refuse-requires-then-wide-count : goal.refuse-requires-then-wide-count
 refuse-requires-then-wide-count c = c.loop-k.invariant.0
 
 pub shape_of-pairs-then-wide-count : goal.shape_of-pairs-then-wide-count
-shape_of-pairs-then-wide-count c = c.refuse-then-wide-count.auto.1.0 ∙ c.loop-k.invariant.0 ∙ sym c.requires.pairs_len
+shape_of-pairs-then-wide-count c = c.refuse-then-wide-count.auto.pairs ∙ c.loop-k.invariant.0 ∙ sym c.requires.pairs_len
 
 pub returns-then-wide-count-clause-lines : goal.returns-then-wide-count-clause-lines
 returns-then-wide-count-clause-lines c = c.refuse-then-wide-count.ensures.lines ∙ pairs_full c.args.stream.now c.loop-k.at c.args.kind c.args.n.code c.args.n.part c.loop-k.count (pairs_of c.loop-k.pairs) c.loop-k.invariant.1.1 (sym c.begins_key.ensures ∙ c.loop-k-test.true) c.key_line-k.result c.key_line-k.ensures (not-false _ c.if-not-k.false) c.value_line-v.result c.value_line-v.ensures (not-false _ c.if-not-v.false) (omega (arith, c.wide.ensures, c.if-wide-count.true))
@@ -76,7 +77,7 @@ pub loop-k-smaller : goal.loop-k-smaller
 loop-k-smaller c = let z = pair_further c.args.stream.now c.loop-k.at c.args.kind c.args.n.code c.args.n.part c.loop-k.count (pairs_of c.loop-k.pairs) c.loop-k.invariant.1.1 (sym c.begins_key.ensures ∙ c.loop-k-test.true) c.key_line-k.result c.key_line-k.ensures (not-false _ c.if-not-k.false) c.value_line-v.result c.value_line-v.ensures (not-false _ c.if-not-v.false) in omega (arith, z.0, z.1)
 
 pub loop-k-preserved : goal.loop-k-preserved
-loop-k-preserved c = (c.put_pair.auto.0 ∙ c.loop-k.invariant.0, pair_reached c.args.stream.now c.loop-k.at c.args.kind c.args.n.code c.args.n.part c.loop-k.count (pairs_of c.loop-k.pairs) c.loop-k.invariant.1.1 (sym c.begins_key.ensures ∙ c.loop-k-test.true) c.key_line-k.result c.key_line-k.ensures (not-false _ c.if-not-k.false) c.value_line-v.result c.value_line-v.ensures (not-false _ c.if-not-v.false) (omega (arith, c.wide.ensures, c.if-wide-count.false)) c.pair_of.result c.pair_of.ensures (pairs_of c.put_pair.new.0) c.put_pair.ensures)
+loop-k-preserved c = (c.put_pair.auto.pairs ∙ c.loop-k.invariant.0, pair_reached c.args.stream.now c.loop-k.at c.args.kind c.args.n.code c.args.n.part c.loop-k.count (pairs_of c.loop-k.pairs) c.loop-k.invariant.1.1 (sym c.begins_key.ensures ∙ c.loop-k-test.true) c.key_line-k.result c.key_line-k.ensures (not-false _ c.if-not-k.false) c.value_line-v.result c.value_line-v.ensures (not-false _ c.if-not-v.false) (omega (arith, c.wide.ensures, c.if-wide-count.false)) c.pair_of.result c.pair_of.ensures (pairs_of c.put_pair.new.pairs) c.put_pair.ensures)
 
 pub last_line-l-requires-clause-at_in_bounds : goal.last_line-l-requires-clause-at_in_bounds
 last_line-l-requires-clause-at_in_bounds c = c.loop-k.invariant.1.1.within
@@ -91,7 +92,7 @@ pub refuse-requires-then-l-eq5 : goal.refuse-requires-then-l-eq5
 refuse-requires-then-l-eq5 c = c.loop-k.invariant.0
 
 pub shape_of-pairs-then-l-eq5 : goal.shape_of-pairs-then-l-eq5
-shape_of-pairs-then-l-eq5 c = c.refuse-then-l-eq5.auto.1.0 ∙ c.loop-k.invariant.0 ∙ sym c.requires.pairs_len
+shape_of-pairs-then-l-eq5 c = c.refuse-then-l-eq5.auto.pairs ∙ c.loop-k.invariant.0 ∙ sym c.requires.pairs_len
 
 pub returns-then-l-eq5-clause-lines : goal.returns-then-l-eq5-clause-lines
 returns-then-l-eq5-clause-lines c = c.refuse-then-l-eq5.ensures.lines ∙ (c.last_line-l.ensures c.args.kind c.args.n.code c.args.n.part c.loop-k.count (pairs_of c.loop-k.pairs) c.loop-k.invariant.1.1).lost c.if-l-eq5.true

@@ -1,7 +1,8 @@
+use mathlib.Core.Bool.{not}
 use Rattle.words.specs.Next.{parted_by, gap}
 use Rattle.words.proofs.Laws.{gap_again, gap_halt, gap_end}
 use Prim.Native.Nat.{◌+◌, ◌-◌}
-use mathlib.Core.Path.{◌≡◌, refl, sym, ◌∙◌}
+use mathlib.Core.Path.{ap, ◌≡◌, refl, sym, ◌∙◌}
 use borrow.Author.Tests.{not-true, not-false}
 use lib.ListN.{length, drop}
 use Rattle.words.proofs.skip_gap.Goals as goal
@@ -10,10 +11,10 @@ pub loop-i-init : goal.loop-i-init
 loop-i-init c = refl
 
 pub returns-then-not-parts : goal.returns-then-not-parts
-returns-then-not-parts c = gap_halt _ _ _ c.loop-i-test.true (sym c.parts.ensures ∙ not-true _ c.if-not-parts.true) ∙ c.loop-i.invariant
+returns-then-not-parts c = gap_halt _ _ _ c.loop-i-test.true (sym c.parts.ensures ∙ not-true _ (ap not c.if-not-parts.true)) ∙ c.loop-i.invariant
 
 pub loop-i-preserved : goal.loop-i-preserved
-loop-i-preserved c = gap_again _ _ _ c.loop-i-test.true (sym c.parts.ensures ∙ not-false _ c.if-not-parts.false) ∙ c.loop-i.invariant
+loop-i-preserved c = gap_again _ _ _ c.loop-i-test.true (sym c.parts.ensures ∙ not-false _ (ap not c.if-not-parts.false)) ∙ c.loop-i.invariant
 
 pub returns : goal.returns
 returns c = gap_end _ _ _ c.loop-i-test.false ∙ c.loop-i.invariant

@@ -10,4 +10,7 @@ pub loop-i-preserved : goal.loop-i-preserved
 loop-i-preserved c = omega (arith, escape_length c.args.w.now c.loop-i.i c.loop-i-test.true)
 
 pub returns : goal.returns
-returns c = let r = omega (arith, ap length (escape_end c.args.w.now c.loop-i.i c.loop-i-test.false)) in record { w_value = r.0; upper_bound = r.1 }
+returns c = record {
+  w_value = omega (arith, ap length (escape_end c.args.w.now c.loop-i.i c.loop-i-test.false));
+  upper_bound = omega (arith, ap length (escape_end c.args.w.now c.loop-i.i c.loop-i-test.false))
+}

@@ -16,7 +16,7 @@ pub put_escape-p-requires : goal.put_escape-p-requires
 put_escape-p-requires c = omega (arith, c.requires, escape_length c.args.w.now c.loop-i.i c.loop-i-test.true)
 
 pub loop-i-preserved : goal.loop-i-preserved
-loop-i-preserved c = ((search rules, kept_length c.loop-i.out c.put_escape-p.new.0 (escape (get_or c.args.w.now c.loop-i.i 0)) c.loop-i.p c.put_escape-p.ensures.out_after ∙ c.loop-i.invariant.0.1), (omega (arith, c.put_escape-p.ensures.value, escape_length c.args.w.now c.loop-i.i c.loop-i-test.true), escape_step _ _ _ _ _ _ c.loop-i-test.true c.put_escape-p.ensures.out_after c.put_escape-p.ensures.value ∙ c.loop-i.invariant.1.1))
+loop-i-preserved c = ((search rules, kept_length c.loop-i.out c.put_escape-p.new.out (escape (get_or c.args.w.now c.loop-i.i 0)) c.loop-i.p c.put_escape-p.ensures.out_after ∙ c.loop-i.invariant.0.1), (omega (arith, c.put_escape-p.ensures.value, escape_length c.args.w.now c.loop-i.i c.loop-i-test.true), escape_step _ _ _ _ _ _ c.loop-i-test.true c.put_escape-p.ensures.out_after c.put_escape-p.ensures.value ∙ c.loop-i.invariant.1.1))
 
 pub shape_of-out : goal.shape_of-out
 shape_of-out c = c.loop-i.invariant.0.1

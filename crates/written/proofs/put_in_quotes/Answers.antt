@@ -19,10 +19,10 @@ pub put_escapes-at-requires : goal.put_escapes-at-requires
 put_escapes-at-requires c = omega (arith, c.marks-more.ensures.w_value, length-set c.args.out.now 0 34)
 
 pub bounds-out-at : goal.bounds-out-at
-bounds-out-at c = omega (arith, c.marks-more.ensures.w_value, length-set c.args.out.now 0 34, c.put_escapes-at.ensures.value, kept_length (set c.args.out.now 0 34) c.put_escapes-at.new.0 (escaped_quotes c.args.w.now) 1 c.put_escapes-at.ensures.out_after)
+bounds-out-at c = omega (arith, c.marks-more.ensures.w_value, length-set c.args.out.now 0 34, c.put_escapes-at.ensures.value, kept_length (set c.args.out.now 0 34) c.put_escapes-at.new.out (escaped_quotes c.args.w.now) 1 c.put_escapes-at.ensures.out_after)
 
 pub shape_of-out : goal.shape_of-out
-shape_of-out c = length-set c.put_escapes-at.new.0 _ 34 ∙ kept_length (set c.args.out.now 0 34) c.put_escapes-at.new.0 (escaped_quotes c.args.w.now) 1 c.put_escapes-at.ensures.out_after ∙ length-set c.args.out.now 0 34
+shape_of-out c = length-set c.put_escapes-at.new.out _ 34 ∙ kept_length (set c.args.out.now 0 34) c.put_escapes-at.new.out (escaped_quotes c.args.w.now) 1 c.put_escapes-at.ensures.out_after ∙ length-set c.args.out.now 0 34
 
 pub returns : goal.returns
 returns c = let r = quotes_done c.args.w.now c.args.out.now _ _ c.put_escapes-at.ensures.value (omega (arith, c.marks-more.ensures.w_value)) c.put_escapes-at.ensures.out_after in record { value = r.0; out_after = r.1 }
