@@ -67,5 +67,13 @@ fn main(rt: HostRuntime) -> io::Result<()> {
     if end.number != 0 {
         return print_refusal(rt.stdout(), end.number, end.event);
     }
-    print_chart(rt.stdout(), &chart, &states, &transitions, &members, &text, end.position)
+    print_chart(
+        rt.stdout(),
+        &chart,
+        &states,
+        &transitions,
+        &members,
+        &text,
+        end.position,
+    )
 }

@@ -4,45 +4,6 @@ use Rattle.streams.proofs.Laws.{gives, one_event_lem}
 use Rattle.reader.proofs.Laws.{first_no_lem, all_yes}
 use Rattle.reader.proofs.chart_event.Goals as goal
 
-pub shape_of-chart-then-no-ne0 : goal.shape_of-chart-then-no-ne0
-shape_of-chart-then-no-ne0 c = refl
-
-pub shape_of-states-then-no-ne0 : goal.shape_of-states-then-no-ne0
-shape_of-states-then-no-ne0 c = refl
-
-pub shape_of-transitions-then-no-ne0 : goal.shape_of-transitions-then-no-ne0
-shape_of-transitions-then-no-ne0 c = refl
-
-pub shape_of-regions-then-no-ne0 : goal.shape_of-regions-then-no-ne0
-shape_of-regions-then-no-ne0 c = refl
-
-pub shape_of-entries-then-no-ne0 : goal.shape_of-entries-then-no-ne0
-shape_of-entries-then-no-ne0 c = refl
-
-pub shape_of-invokes-then-no-ne0 : goal.shape_of-invokes-then-no-ne0
-shape_of-invokes-then-no-ne0 c = refl
-
-pub shape_of-datums-then-no-ne0 : goal.shape_of-datums-then-no-ne0
-shape_of-datums-then-no-ne0 c = refl
-
-pub shape_of-parameters-then-no-ne0 : goal.shape_of-parameters-then-no-ne0
-shape_of-parameters-then-no-ne0 c = refl
-
-pub shape_of-members-then-no-ne0 : goal.shape_of-members-then-no-ne0
-shape_of-members-then-no-ne0 c = refl
-
-pub shape_of-opened-then-no-ne0 : goal.shape_of-opened-then-no-ne0
-shape_of-opened-then-no-ne0 c = refl
-
-pub shape_of-names-then-no-ne0 : goal.shape_of-names-then-no-ne0
-shape_of-names-then-no-ne0 c = refl
-
-pub shape_of-pending-then-no-ne0 : goal.shape_of-pending-then-no-ne0
-shape_of-pending-then-no-ne0 c = refl
-
-pub shape_of-text-then-no-ne0 : goal.shape_of-text-then-no-ne0
-shape_of-text-then-no-ne0 c = refl
-
 pub returns-then-no-ne0 : goal.returns-then-no-ne0
 returns-then-no-ne0 c = gives _ _ _ _ c.refuse.ensures (first_no_lem (lent (tables c.args.chart.now c.args.states.now c.args.transitions.now c.args.regions.now c.args.entries.now c.args.invokes.now c.args.datums.now c.args.parameters.now c.args.members.now c.args.opened.now c.args.names.now c.args.pending.now) c.args.text.now) c.args.p c.args.raw.now _ c.asked-first.ensures _ c.one_event.ensures _ c.first_of-no.ensures c.if-no-ne0.true)
 

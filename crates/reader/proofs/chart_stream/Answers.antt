@@ -6,45 +6,6 @@ use Rattle.reader.proofs.chart_stream.Goals as goal
 pub returns-then-bytes-eq0 : goal.returns-then-bytes-eq0
 returns-then-bytes-eq0 c = ends _ _ _ _ _ c.end.ensures (stream_none (lent (tables c.args.chart.now c.args.states.now c.args.transitions.now c.args.regions.now c.args.entries.now c.args.invokes.now c.args.datums.now c.args.parameters.now c.args.members.now c.args.opened.now c.args.names.now c.args.pending.now) c.args.text.now) c.args.p c.args.bytes.now c.if-bytes-eq0.true)
 
-pub shape_of-chart-then-first-ne0 : goal.shape_of-chart-then-first-ne0
-shape_of-chart-then-first-ne0 c = refl
-
-pub shape_of-states-then-first-ne0 : goal.shape_of-states-then-first-ne0
-shape_of-states-then-first-ne0 c = refl
-
-pub shape_of-transitions-then-first-ne0 : goal.shape_of-transitions-then-first-ne0
-shape_of-transitions-then-first-ne0 c = refl
-
-pub shape_of-regions-then-first-ne0 : goal.shape_of-regions-then-first-ne0
-shape_of-regions-then-first-ne0 c = refl
-
-pub shape_of-entries-then-first-ne0 : goal.shape_of-entries-then-first-ne0
-shape_of-entries-then-first-ne0 c = refl
-
-pub shape_of-invokes-then-first-ne0 : goal.shape_of-invokes-then-first-ne0
-shape_of-invokes-then-first-ne0 c = refl
-
-pub shape_of-datums-then-first-ne0 : goal.shape_of-datums-then-first-ne0
-shape_of-datums-then-first-ne0 c = refl
-
-pub shape_of-parameters-then-first-ne0 : goal.shape_of-parameters-then-first-ne0
-shape_of-parameters-then-first-ne0 c = refl
-
-pub shape_of-members-then-first-ne0 : goal.shape_of-members-then-first-ne0
-shape_of-members-then-first-ne0 c = refl
-
-pub shape_of-opened-then-first-ne0 : goal.shape_of-opened-then-first-ne0
-shape_of-opened-then-first-ne0 c = refl
-
-pub shape_of-names-then-first-ne0 : goal.shape_of-names-then-first-ne0
-shape_of-names-then-first-ne0 c = refl
-
-pub shape_of-pending-then-first-ne0 : goal.shape_of-pending-then-first-ne0
-shape_of-pending-then-first-ne0 c = refl
-
-pub shape_of-text-then-first-ne0 : goal.shape_of-text-then-first-ne0
-shape_of-text-then-first-ne0 c = refl
-
 pub returns-then-first-ne0 : goal.returns-then-first-ne0
 returns-then-first-ne0 c = ends _ _ _ _ _ c.end-then-first-ne0.ensures (stream_refused (lent (tables c.args.chart.now c.args.states.now c.args.transitions.now c.args.regions.now c.args.entries.now c.args.invokes.now c.args.datums.now c.args.parameters.now c.args.members.now c.args.opened.now c.args.names.now c.args.pending.now) c.args.text.now) c.args.p c.args.bytes.now c.if-bytes-eq0.false _ c.asked-first.ensures c.if-first-ne0.true)
 

@@ -12,5 +12,5 @@ loop-i-preserved c = omega (arith, escape_length c.args.w.now c.loop-i.i c.loop-
 pub returns : goal.returns
 returns c = record {
   w_value = omega (arith, ap length (escape_end c.args.w.now c.loop-i.i c.loop-i-test.false));
-  upper_bound = omega (arith, ap length (escape_end c.args.w.now c.loop-i.i c.loop-i-test.false))
+  upper_bound = omega (arith, ap length (escape_end c.args.w.now c.loop-i.i c.loop-i-test.false));
 }
