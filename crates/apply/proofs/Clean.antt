@@ -1,13 +1,13 @@
 -- THE LAW OF APPLY: on the rows in use the tables that the code leaves are the plan's, in the definition's own words; what lies beyond stays.
-use Prim.Native.Nat.{ℕ, zero, suc, ◌+◌, ◌≤◌, ◌<◌}
-use mathlib.Core.Path.{◌≡◌, refl, sym, ap, ◌∙◌}
-use mathlib.Core.Bool.{Bool, true, false}
+use Prim.Native.Nat.{ℕ, suc, ◌+◌, ◌≤◌, ◌<◌}
+use mathlib.Core.Path.{◌≡◌, sym, ap, ◌∙◌}
+use mathlib.Core.Bool.{false}
 use mathlib.Core.List.{List, [], ◌∷◌}
 use native.Mathlib.Omega.{arith}
 use lib.ListN.{length, take}
-use Rattle.definition.specs.Rows.{Row, Table, Numbers}
+use Rattle.definition.specs.Rows.{Table, Numbers}
 use Rattle.definition.specs.Look.{Look}
-use Rattle.definition.specs.Reader.{over, over_all, taken}
+use Rattle.definition.specs.Reader.{over, over_all}
 use Rattle.plan.specs.declared.Plan.{Plan}
 use Rattle.plan.specs.After.{words_after, targets_after, members_after, applied}
 use Rattle.plan.specs.Decided.{one_unless}

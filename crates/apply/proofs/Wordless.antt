@@ -1,17 +1,16 @@
 -- A plan names no shape of words for a row: only a transition, a send and an invoke have one.
-use Prim.Native.Nat.{ℕ, zero, suc, ◌≤◌, ◌<◌}
+use Prim.Native.Nat.{ℕ, zero, suc, ◌≤◌}
 use mathlib.Core.Path.{◌≡◌, refl, sym, ap, ◌∙◌, subst}
 use mathlib.Core.Bool.{Bool, true, false, ◌&&◌, ◌||◌}
-use mathlib.Core.List.{List, [], ◌∷◌}
 use native.Mathlib.Omega.{arith}
 use lib.Dec.{eqb}
-use borrow.Author.Tests.{eq-eqb, ne_eqb, eqb-true, eqb-false}
+use borrow.Author.Tests.{eqb-true}
 use Rattle.words.proofs.Laws.{by}
 use Rattle.plan.specs.declared.Plan.{Plan}
 use Rattle.plan.specs.declared.Seen.{Seen}
 use Rattle.plan.specs.declared.Heard.{Heard}
 use Rattle.plan.specs.Plan.{Planned, planned, refused}
-use Rattle.plan.specs.Plans.{unless_zero_p, unless_initial_p, closing_p, idle_in, begun, ended, plain_p, only_nest_p, rest_p, send_p, invoke_p, transition_plan, open_transition, whole_transition, transition_by, start_transition_p, both_transition_p, end_transition_p, starts_p, boths_p, ends_p, start_p, both_p, end_p, plan_by}
+use Rattle.plan.specs.Plans.{unless_zero_p, unless_initial_p, closing_p, idle_in, begun, ended, rest_p, send_p, invoke_p, transition_plan, open_transition, whole_transition, transition_by, start_transition_p, both_transition_p, end_transition_p, starts_p, boths_p, ends_p, start_p, both_p, end_p, plan_by}
 use Rattle.fill.specs.Fill.{is_words}
 
 pub record Quiet (p : Plan) : Type 0 where

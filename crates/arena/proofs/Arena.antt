@@ -1,23 +1,20 @@
 -- The texts of an event as they lie in the arena: a key's cell leads to its value.
-use Prim.Native.Nat.{ℕ, zero, suc, ◌+◌, ◌-◌, ◌≤◌, ◌<◌}
+use Prim.Native.Nat.{ℕ, suc, ◌+◌, ◌-◌, ◌≤◌}
 use mathlib.Core.Path.{◌≡◌, refl, sym, ap, ap₂, ◌∙◌, subst}
 use mathlib.Core.Bool.{Bool, true, false}
-use mathlib.Core.Option.{Option, none, some}
-use mathlib.Core.List.{List, [], ◌∷◌, ◌++◌, map, append-nil, append_assoc}
+use mathlib.Core.List.{List, [], ◌∷◌, ◌++◌, append-nil, append_assoc}
 use native.Mathlib.Omega.{arith}
 use lib.Dec.{eqb}
-use lib.ListN.{length, get_or, take, drop, length-append, length-drop, length-take}
-use lib.Seq.{drop-append_seam, take-append_seam}
-use borrow.Author.Tests.{eqb-true}
-use Rattle.definition.specs.Text.{Piece, bytes_at, words_by, state_words_at}
-use Rattle.definition.specs.Elements.{role_of}
-use Rattle.definition.specs.Rows.{Cell, no_cell, cell_at, text_at, text_from}
-use Rattle.definition.specs.Look.{Load, Field, has_load, payload, field_by, fields_from}
-use Rattle.definition.specs.Change.{field_in, field_cell, field_words}
+use lib.ListN.{length, take, drop, length-append}
+use lib.Seq.{take-append_seam}
+use Rattle.definition.specs.Text.{bytes_at, words_by, state_words_at}
+use Rattle.definition.specs.Rows.{Cell, no_cell, text_at, text_from}
+use Rattle.definition.specs.Look.{Load, has_load, payload, field_by, fields_from}
+use Rattle.definition.specs.Change.{field_in, field_cell}
 use Rattle.words.proofs.Laws.{by}
 use Rattle.plain.specs.Keyed.{value_in, offset_in}
 use Rattle.plain.proofs.ValueLaws.{value_here, value_past, offset_here, offset_past, has_past}
-use Rattle.heard.proofs.FieldLaw.{field_of, field_is, field_some, field_no}
+use Rattle.heard.proofs.FieldLaw.{field_is, field_some, field_no}
 use Rattle.plain.proofs.ValueLaws.{value_none}
 use Rattle.fill.specs.Fill.{cell}
 use Rattle.wordlists.specs.Words.{list_cells}

@@ -1,12 +1,12 @@
 -- What is written of names and words is what the definition enters and lists.
-use Prim.Native.Nat.{ℕ, zero, suc, ◌+◌, ◌-◌, ◌≤◌, ◌<◌}
+use Prim.Native.Nat.{ℕ, zero, suc, ◌+◌, ◌<◌}
 use mathlib.Core.Path.{◌≡◌, refl, sym, ap, ap₂, ◌∙◌, subst}
-use mathlib.Core.Bool.{Bool, true, false, not}
+use mathlib.Core.Bool.{Bool, true, false}
 use mathlib.Core.Option.{Option, none, some}
 use mathlib.Core.List.{List, [], ◌∷◌, ◌++◌, map, append-nil}
 use native.Mathlib.Omega.{arith}
 use lib.Dec.{eqb}
-use lib.ListN.{length, get_or, take, drop, set, length-append, length-drop, length-map}
+use lib.ListN.{length, drop}
 use lib.Seq.{get_or-set_same}
 use borrow.Author.Tests.{eq-eqb, ne_eqb, eqb-true, eqb-false}
 use Rattle.definition.specs.Limits.{limits01}
@@ -14,9 +14,8 @@ use Rattle.definition.specs.Text.{Piece}
 use Rattle.definition.specs.Elements.{tag_of, names_state, among}
 use Rattle.definition.specs.Event.{Event, keys_differ, in_form}
 use Rattle.definition.specs.Rows.{Row, Table, Cell, no_cell, cell_at, table_of, Numbers, Store}
-use Rattle.definition.specs.Look.{Load, Look, Field, look, loads_of, payload, has_load, fields_from, names_brought, names_from, resolve, name_cells, text_after}
+use Rattle.definition.specs.Look.{Load, Look, Field, look, loads_of, payload, fields_from, names_brought, names_from, resolve, name_cells}
 use Rattle.definition.specs.Change.{field_in, field_cell, field_words, words_of, entered, on_table, state_row, has, present}
-use Rattle.definition.specs.Reader.{over}
 use Rattle.words.proofs.Laws.{by}
 use Rattle.names.specs.Names.{Inside}
 use Rattle.definition.proofs.Base as D
@@ -25,21 +24,19 @@ use Rattle.names.proofs.BroughtLaw.{state_stands, transition_stands, others_brin
 use Rattle.names.proofs.NamesLaw.{no_loads}
 use Rattle.plan.specs.declared.MemberPlan.{MemberPlan}
 use Rattle.plan.specs.declared.Plan.{Plan}
-use Rattle.plan.specs.declared.Heard.{Heard}
 use Rattle.plan.specs.Heard.{heard}
 use Rattle.plan.specs.After.{word_rows, words_in, words_after, targets_after, member_row}
 use Rattle.fill.specs.Fill.{texts_of, cell_on}
-use Rattle.wordlists.specs.Words.{set_all, word_members, list_cells}
-use Rattle.tables.proofs.Clean.{over_over}
-use Rattle.wordlists.proofs.Clean.{all_clean, event_rows, send_rows, invoke_rows, targets_rows}
+use Rattle.wordlists.specs.Words.{word_members, list_cells}
+use Rattle.wordlists.proofs.Clean.{event_rows, send_rows, invoke_rows, targets_rows}
 use Rattle.arena.proofs.WordLaw.{event_words_lem, send_words, invoke_words}
 use Rattle.planfacts.proofs.Listed.{Words, no_words, events, names_of_send, names_of_invoke, Targets, no_targets, of_transition, of_initial, of_none, Listed, Unlisted}
 use Rattle.targets.specs.Enter.{enter_all}
 use Rattle.targets.specs.Enter as E
 use Rattle.targets.proofs.Laws.{entered_rows}
-use Rattle.wordlists.specs.Words.{cells_at, word_cells, word_rows_of}
-use Rattle.targets.specs.Names.{pieces_at, own_piece, target_pieces, pieces_in, skip_of, InText, OwnIn, TargetsIn}
-use Rattle.arena.proofs.Arena.{text_there, cell_inside, cells_there, pieces_there, own_there, own_inside}
+use Rattle.wordlists.specs.Words.{word_cells, word_rows_of}
+use Rattle.targets.specs.Names.{pieces_at, own_piece, pieces_in, skip_of, OwnIn, TargetsIn}
+use Rattle.arena.proofs.Arena.{cell_inside, cells_there, pieces_there, own_there, own_inside}
 use Rattle.targets.proofs.NameLaws as N
 
 module _ (s : Store) (e : Event) (fit : in_form limits01 e ≡ true) (differ : keys_differ e.attributes ≡ true) (inside : D.All (Inside s.text) (name_cells (table_of s.numbers 1))) where

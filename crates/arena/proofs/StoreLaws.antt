@@ -1,6 +1,6 @@
 -- For the proof of write_texts: what each step leaves is what the next asks.
-use Prim.Native.Nat.{ℕ, zero, suc, ◌+◌, ◌-◌, ◌≤◌, ◌<◌}
-use mathlib.Core.Path.{◌≡◌, refl, sym, ap, ap₂, ◌∙◌, subst}
+use Prim.Native.Nat.{ℕ, suc, ◌+◌, ◌≤◌}
+use mathlib.Core.Path.{◌≡◌, sym, ap, ap₂, ◌∙◌, subst}
 use mathlib.Core.Bool.{Bool}
 use mathlib.Core.List.{List, ◌++◌, append_assoc}
 use native.Mathlib.Omega.{arith}
@@ -17,7 +17,6 @@ use Rattle.wordlists.specs.Words.{set_all}
 use Rattle.payload.specs.Laid.{laid}
 use Rattle.payload.specs.declared.Ends.{Ends}
 use Rattle.payload.specs.Payload.{made_in, all_loads, payload_in, ends_in}
-use Rattle.arena.specs.declared.Written.{Written}
 use Rattle.texts.specs.EventTexts.{event_texts, Ended, Texts}
 use Rattle.wordlists.specs.Words.{word_rows_of}
 use Rattle.targets.specs.Names.{pieces_in, skip_of, NameRoom, NamesWritten, OwnIn, TargetsIn}

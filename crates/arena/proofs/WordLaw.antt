@@ -1,15 +1,13 @@
 -- THE LAW OF WORDS: the look's words of a key are those of its value where it lies.
-use Prim.Native.Nat.{ℕ, zero, suc, ◌+◌}
+use Prim.Native.Nat.{ℕ, ◌+◌}
 use mathlib.Core.Path.{◌≡◌, refl, sym, ap, ap₂, ◌∙◌}
 use mathlib.Core.Bool.{Bool, true, false}
-use mathlib.Core.Option as Option
 use mathlib.Core.List.{List, [], ◌∷◌, map}
 use native.Mathlib.Omega.{arith}
 use lib.Dec.{eqb}
 use lib.ListN.{length}
 use borrow.Author.Tests.{eqb-true}
-use Rattle.definition.specs.Text.{Span, words_by, pieces, emit}
-use Rattle.definition.specs.Rows.{Cell}
+use Rattle.definition.specs.Text.{words_by, pieces, emit}
 use Rattle.definition.specs.Elements.{Role, plain, role_of, is_masked, is_name, is_names, names_state, among}
 use Rattle.definition.specs.Look.{Load, Field, field_by, fields_from, words_by_role, word_spans, is_events, is_namelist, shift}
 use Rattle.definition.specs.Change.{field_in, field_words}

@@ -3,21 +3,7 @@
 use Rattle.std.specs.Prelude.{ℕ, suc, List, [], ◌∷◌, ◌++◌, map, replicate}
 use Rattle.definition.specs.Text.{str}
 use Rattle.definition.specs.Elements.{tag}
-use Rattle.definition.specs.Rows.{
-  table,
-  list,
-  chart,
-  state,
-  transition,
-  region,
-  entry,
-  invoke,
-  datum,
-  parameter,
-  member,
-  opened,
-  open_region,
-}
+use Rattle.definition.specs.Rows.{table, chart, state, transition, region, entry, invoke, datum, parameter, member, opened, open_region}
 use Rattle.definition.specs.Reader.{reading}
 use Rattle.cases.specs.Made.{
   limit,

@@ -2,7 +2,6 @@
 -- an event runs to the next line beginning `event=` or to the end."
 use Rattle.std.specs.Prelude.{ℕ, suc, Bool, ◌&&◌, List, [], ◌∷◌, ◌++◌, take, drop, replicate, eqb}
 use Prim.Native.String.{String}
-use Rattle.definition.specs.declared.Limits.{Limits}
 use Rattle.definition.specs.declared.Position.{Position}
 use Rattle.definition.specs.Text.{str, same}
 use Rattle.definition.specs.Elements.{tag}

@@ -8,15 +8,19 @@ use listing::{put_chart, put_refusal};
 use std::io;
 use std::io::{Stdout, Write};
 
-fn print_refusal(mut to: Stdout, number: u32, event: u64) -> io::Result<()> {
+fn print(mut to: Stdout, out: &[u8]) -> io::Result<()> {
+    to.write_all(out)
+}
+
+fn print_refusal(to: Stdout, number: u32, event: u64) -> io::Result<()> {
     let mut out = [0u8; 64];
     let n = put_refusal(&mut out, number, event);
-    to.write_all(&out[..n])
+    print(to, &out[..n])
 }
 
 // A chart within the limits needs some 201,600 bytes at most (docs/DECISIONS.md, 'Program').
 fn print_chart(
-    mut to: Stdout,
+    to: Stdout,
     charts: &[[u32; 24]],
     states: &[[u32; 24]],
     transitions: &[[u32; 8]],
@@ -26,7 +30,7 @@ fn print_chart(
 ) -> io::Result<()> {
     let mut out = [0u8; 262144];
     let n = put_chart(&mut out, charts, states, transitions, members, text, p);
-    to.write_all(&out[..n])
+    print(to, &out[..n])
 }
 
 fn main(rt: HostRuntime) -> io::Result<()> {

@@ -5,7 +5,7 @@ use Rattle.std.proofs.Math.Bool.{true, false}
 use mathlib.Core.List.{List, [], ◌∷◌, ◌++◌, map}
 use Rattle.std.proofs.Math.ListN.{get_or}
 use Rattle.std.proofs.Math.Dec.{eqb, leb}
-use Rattle.definition.specs.Elements.{tag, element_names}
+use Rattle.definition.specs.Elements.{element_names}
 use Rattle.definition.specs.Rows.{
   Row,
   Table,

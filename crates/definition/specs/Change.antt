@@ -1,8 +1,8 @@
 -- What handlers say and what it does: a change is rows added and numbers set, in order, with what was drawn from the counters. Numbers only.
 use Rattle.std.specs.Prelude.{ℕ, zero, suc, ◌+◌, Bool, true, false, List, [], ◌∷◌, ◌++◌, map, reverse, length, get_or, set, drop, eqb}
 use Rattle.std.proofs.Math.Option.{Option, none, some}
-use Rattle.definition.specs.Elements.{tag, key}
-use Rattle.definition.specs.Rows.{Row, Table, table, list, state, transition, region, member, opened, open_region, num, blank, columns_of, Class, free, own, doc_id, above, mark, len, code, row, existing, text, by, Cell, no_cell, cell_at, with_cell, Numbers, table_of, current_state, current_transition}
+use Rattle.definition.specs.Elements.{key}
+use Rattle.definition.specs.Rows.{Row, Table, table, state, region, member, open_region, num, blank, columns_of, Class, free, own, doc_id, above, mark, len, code, row, existing, text, by, Cell, no_cell, cell_at, with_cell, Numbers, table_of, current_state, current_transition}
 use Rattle.definition.specs.Shapes.{Source, absent, trimmed, content, quoted, value, filled, given, word, Filling, Shape, shape_at}
 use Rattle.definition.specs.Look.{Field, Look}
 

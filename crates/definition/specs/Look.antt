@@ -4,7 +4,7 @@ use Rattle.std.proofs.Math.Option.{Option, none, some}
 use Rattle.definition.specs.Text.{same, place_in, lowered, is_true, Span, Piece, event_words, state_words, state_words_at, wildcard, trim, quoted, generated_name}
 use Rattle.definition.specs.Elements.{tag, key, Role, name, names, masked, plain, role_of, names_state, key_of, tag_of, codings, words_taken}
 use Rattle.definition.specs.Event.{Attribute, Event, kind}
-use Rattle.definition.specs.Rows.{Row, Table, table, state, datum, opened, num, Cell, cell_at, text_at, Numbers, table_of, Store, innermost, current_state}
+use Rattle.definition.specs.Rows.{Row, Table, table, state, datum, opened, num, Cell, cell_at, text_at, Numbers, table_of, Store, current_state}
 
 -- ---- an event's payload: what an accepted event adds to the text
 

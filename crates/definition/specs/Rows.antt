@@ -2,7 +2,7 @@
 use Rattle.std.specs.Prelude.{ℕ, zero, suc, Bool, true, false, ◌&&◌, List, [], ◌∷◌, ◌++◌, length, get_or, set, replicate, eqb}
 use Rattle.std.proofs.Math.Option.{Option, none, some}
 use Rattle.definition.specs.Text.{bytes_at}
-use Rattle.definition.specs.Elements.{Role, name, names, masked, plain}
+use Rattle.definition.specs.Elements.{Role, name, masked, plain}
 
 abbrev pub Row : Type 0
 Row = List ℕ

@@ -3,7 +3,7 @@
 use Rattle.std.specs.Prelude.{ℕ, zero, suc, ◌+◌, Bool, true, false, ◌&&◌, ◌||◌, not, List, [], ◌∷◌, ◌++◌, length, get_or, eqb, leb, ltb}
 use Rattle.definition.specs.declared.Limits.{Limits}
 use Rattle.definition.specs.Elements.{tag, tag_of, among}
-use Rattle.definition.specs.Rows.{Row, Table, table, choices, region, entry, opened, open_region, Class, free, own, doc_id, above, mark, len, code, row, existing, text, by, schema, num, Cell, text_at, Numbers, table_of, Store}
+use Rattle.definition.specs.Rows.{Row, Table, table, choices, entry, opened, open_region, Class, free, own, doc_id, above, mark, len, code, row, existing, text, by, schema, num, Cell, text_at, Numbers, table_of, Store}
 use Rattle.definition.specs.Look.{find_name, name_cells, open_name}
 use Rattle.definition.specs.Actions.{place_of_number}
 

@@ -1,15 +1,14 @@
 -- THE LAWS OF TABLES: on the rows in use the code's table is the plan's, with the texts of the look; what lies beyond stays.
-use Prim.Native.Nat.{ℕ, zero, suc, ◌+◌, ◌-◌, ◌≤◌, ◌<◌}
-use mathlib.Core.Path.{◌≡◌, refl, sym, ap, ap₂, ◌∙◌}
-use mathlib.Core.Bool.{Bool, true, false}
-use mathlib.Core.List.{List, [], ◌∷◌, ◌++◌}
+use Prim.Native.Nat.{ℕ, zero, suc, ◌+◌, ◌≤◌}
+use mathlib.Core.Path.{◌≡◌, refl, sym, ap, ◌∙◌}
+use mathlib.Core.Bool.{false}
+use mathlib.Core.List.{List, [], ◌∷◌}
 use native.Mathlib.Omega.{arith}
-use lib.ListN.{length, get_or, set, take, replicate, length-append, length-set}
+use lib.ListN.{length, set, take, length-append}
 use lib.Seq.{length-take-le}
 use Rattle.definition.specs.Rows.{Row, Table}
 use Rattle.definition.specs.Look.{Look}
-use Rattle.definition.specs.Change.{alter_row, filled_by}
-use Rattle.definition.specs.Shapes.{shape_at}
+use Rattle.definition.specs.Change.{alter_row}
 use Rattle.definition.specs.Reader.{over}
 use Rattle.definition.proofs.Changes.{alter_set}
 use Rattle.plan.specs.declared.ChartPlan.{ChartPlan}
@@ -21,7 +20,7 @@ use Rattle.plan.specs.declared.DatumPlan.{DatumPlan}
 use Rattle.plan.specs.declared.ParameterPlan.{ParameterPlan}
 use Rattle.plan.specs.After.{put, shaped, shaped_if, added_if, rooted, chart_after, state_columns_after, states_after, transition_row, transitions_after, entry_row, recorded, entries_after, invoke_row, invokes_after, datums_after, parameters_after}
 use Rattle.plan.specs.Decided.{one_unless}
-use Rattle.plan.proofs.Over.{over_start, over_add, over_alter}
+use Rattle.plan.proofs.Over.{over_start, over_alter}
 use Rattle.fill.specs.Fill.{texts_of, shaped_by, is_words}
 use Rattle.fill.proofs.ShapeLaw.{Placed, shapes_law}
 use Rattle.tables.specs.Whole.{set_unless}

@@ -1,5 +1,5 @@
 -- A plan on a whole lent table, n rows of which are in use; t are the event's texts, g its element.
-use Rattle.std.specs.Prelude.{ℕ, zero, suc, ◌+◌, List, [], ◌∷◌, set, replicate}
+use Rattle.std.specs.Prelude.{ℕ, zero, suc, List, [], ◌∷◌, set, replicate}
 use Rattle.definition.specs.Rows.{Row, Table}
 use Rattle.definition.specs.Change.{alter_row}
 use Rattle.plan.specs.declared.ChartPlan.{ChartPlan}

@@ -1,5 +1,5 @@
 -- An event's bytes taken apart: what the walk over its lines has brought, if the event is in form and its keys are different.
-use Rattle.std.specs.Prelude.{ℕ, zero, suc, ◌+◌, ◌≡◌, Bool, true, false, ◌&&◌, not, List, [], ◌∷◌, take, replicate, eqb}
+use Rattle.std.specs.Prelude.{ℕ, zero, suc, ◌≡◌, Bool, true, false, ◌&&◌, not, List, [], ◌∷◌, take, replicate, eqb}
 use Rattle.definition.specs.Text.{same}
 use Rattle.definition.specs.Elements.{key_of, holds_text}
 use Rattle.definition.specs.Event.{legible}

@@ -1,5 +1,5 @@
 -- The text columns of a row, from a table of the event's texts: two numbers a key, and what is made of the text.
-use Rattle.std.specs.Prelude.{ℕ, zero, suc, ◌+◌, Bool, true, false, ◌&&◌, ◌||◌, List, [], ◌∷◌, get_or, drop, eqb, leb}
+use Rattle.std.specs.Prelude.{ℕ, zero, suc, Bool, true, false, ◌&&◌, ◌||◌, List, [], ◌∷◌, get_or, drop, eqb, leb}
 use Rattle.definition.specs.Rows.{Row, Cell, no_cell, cell_at, with_cell}
 use Rattle.definition.specs.Look.{Field}
 use Rattle.definition.specs.Change.{field_in, field_cell, trimmed_cell, if_filled}

@@ -8,7 +8,7 @@ use native.Mathlib.Omega.{arith}
 use lib.Dec.{eqb}
 use lib.ListN.{length, length-map}
 use borrow.Author.Tests.{eqb-true}
-use Rattle.definition.specs.Elements.{Role, names, plain, role_of, is_masked, is_name, is_names, among, tag_of}
+use Rattle.definition.specs.Elements.{Role, plain, role_of, is_masked, is_name, is_names, among, tag_of}
 use Rattle.definition.specs.Event.{Event}
 use Rattle.definition.specs.Rows.{Store}
 use Rattle.definition.specs.Look.{Load, value_loads, loads_of, has_load, Field, look, fields_from, field_by, code_by_role, words_by_role, code_of, word_spans, shift}

@@ -8,7 +8,7 @@ use lib.Dec.{eqb, leb}
 use native.Mathlib.Omega.{arith}
 use Rattle.definition.specs.Elements.{tag, key}
 use Rattle.definition.specs.Event.{kind}
-use Rattle.definition.specs.Rows.{columns_of, Numbers, table_of, chart, state, transition, entry, invoke, choices, blank, with_cell, current_state, parent_tag}
+use Rattle.definition.specs.Rows.{columns_of, Numbers, table_of, chart, entry, invoke, choices, blank, with_cell, current_state, parent_tag}
 use Rattle.definition.specs.Shapes.{shape_at}
 use Rattle.definition.specs.Look.{Look}
 use Rattle.definition.specs.Change.{Put, ◌≔◌, numbers, shape, Change, done, nothing, edited_by, put_all, put_one, is_number, filled_by, also, adding, altering, shape_of, add_words, words_of, has, code_for, fresh_region, region_over}

@@ -6,8 +6,6 @@ use mathlib.Core.List.{List, [], ◌∷◌}
 use lib.ListN.{get_or}
 use lib.Dec.{leb}
 use native.Mathlib.Omega.{arith}
-use Rattle.definition.specs.Elements.{tag}
-use Rattle.definition.specs.Event.{kind}
 use Rattle.definition.specs.Rows.{Row, Table, num, columns_of, Numbers, entry, choices, blank, with_cell}
 use Rattle.definition.specs.Shapes.{shape_at}
 use Rattle.definition.specs.Look.{Look}

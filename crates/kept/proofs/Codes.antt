@@ -8,7 +8,7 @@ use lib.ListN.{length, replicate, length-append, length-replicate}
 use lib.Dec.{eqb, leb, ltb}
 use native.Mathlib.Omega.{arith}
 use Rattle.definition.specs.Text.{place_in, str, wildcard, event_words, is_true}
-use Rattle.definition.specs.Elements.{tag, key, role_of, is_masked, is_name, is_names, element_names, number_in, tag_of, codings, words_taken}
+use Rattle.definition.specs.Elements.{key, role_of, is_masked, is_name, is_names, element_names, number_in, tag_of, codings, words_taken}
 use Rattle.definition.specs.Rows.{Table, num, last_of}
 use Rattle.definition.specs.Look.{Look, Load, Field, one_if, code_of, is_events, code_by_role, field_by, fields_from, kept_name, name_row, is_named, is_innermost}
 use Rattle.definition.specs.Change.{field_in, present, field_code, has, code_for}

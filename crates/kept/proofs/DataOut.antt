@@ -6,7 +6,7 @@ use mathlib.Core.List.{List, [], ◌∷◌}
 use lib.ListN.{length, get_or}
 use lib.Dec.{eqb, leb}
 use native.Mathlib.Omega.{arith}
-use Rattle.definition.specs.Elements.{tag, key}
+use Rattle.definition.specs.Elements.{key}
 use Rattle.definition.specs.Rows.{Row, Table, free, num, columns_of, Numbers, table_of, table, state, transition, datum, choices, same_list, blank, with_cell, current_state, root, listed, values_of}
 use Rattle.definition.specs.Shapes.{shape_at}
 use Rattle.definition.specs.Look.{Look}

@@ -5,7 +5,7 @@ use mathlib.Core.Bool.{true, false, ◌&&◌}
 use mathlib.Core.List.{List, [], ◌∷◌}
 use lib.Dec.{eqb, leb}
 use native.Mathlib.Omega.{arith}
-use Rattle.definition.specs.Elements.{tag, key, names_state, among}
+use Rattle.definition.specs.Elements.{key, names_state, among}
 use Rattle.definition.specs.Rows.{Table, Numbers, choices, shallow}
 use Rattle.definition.specs.Look.{Look}
 use Rattle.definition.specs.Change.{Outcome, done, refuse, nothing, edited_by, has, code_for}

@@ -6,7 +6,6 @@ use mathlib.Core.List.{List, [], ◌∷◌, ◌++◌}
 use lib.ListN.{length, get_or, set}
 use lib.Dec.{eqb}
 use native.Mathlib.Omega.{arith}
-use Rattle.definition.specs.Elements.{tag}
 use Rattle.definition.specs.Rows.{Row, Table, free, num, columns_of, row_of, Numbers, table_of, state, transition, entry, choices}
 use Rattle.definition.specs.Shapes.{Filling, shape_at}
 use Rattle.definition.specs.Look.{Look}

@@ -7,7 +7,6 @@ use lib.ListN.{length, get_or, set, drop, replicate, length-append}
 use lib.Dec.{leb}
 use lib.Seq.{get_or-set_other, get_or-set_same, set_comm}
 use native.Mathlib.Omega.{arith}
-use Rattle.definition.specs.Elements.{tag}
 use Rattle.definition.specs.Rows.{Row, Table, Class, free, own, doc_id, above, mark, len, code, row, existing, text, by, columns_of, choices, Numbers}
 use Rattle.definition.specs.Shapes.{Filling}
 use Rattle.definition.specs.Look.{Look}

@@ -8,7 +8,7 @@ use lib.Dec.{eqb, leb, eqb-suc-zero}
 use lib.Seq.{take-append_seam, drop-append_seam}
 use native.Mathlib.Omega.{arith}
 use Rattle.definition.specs.declared.Limits.{Limits}
-use Rattle.definition.specs.Elements.{tag, key, role_of, names_state, tag_of}
+use Rattle.definition.specs.Elements.{key, role_of, names_state, tag_of}
 use Rattle.definition.specs.Event.{Event, kind}
 use Rattle.definition.specs.Rows.{Cell, Numbers, table_of, Store}
 use Rattle.definition.specs.Look.{look, Load, resolve, name_cells, names_brought, loads_of, payload, code_by_role, kept_name, name_row, open_name}

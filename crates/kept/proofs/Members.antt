@@ -6,8 +6,7 @@ use mathlib.Core.List.{List, [], ◌∷◌}
 use lib.ListN.{get_or}
 use lib.Dec.{leb}
 use native.Mathlib.Omega.{arith}
-use Rattle.definition.specs.Elements.{tag}
-use Rattle.definition.specs.Rows.{Row, Table, Class, free, spare, row, columns_of, choices, blank, Numbers, member, list, Cell, cell_at, with_cell}
+use Rattle.definition.specs.Rows.{Row, Table, Class, free, spare, row, columns_of, choices, blank, Numbers, member, Cell, cell_at, with_cell}
 use Rattle.definition.specs.Shapes.{◌⇐◌, word}
 use Rattle.definition.specs.Look.{Look}
 use Rattle.definition.specs.Change.{Put, ◌≔◌, numbers, shape, add, Change, Outcome, done, refuse, unless_zero, put_all, put_one, is_number, filled_by, cell_of, also, adding, shape_of, add_member, add_members, add_words_from}

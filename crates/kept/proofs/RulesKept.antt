@@ -8,9 +8,9 @@ use lib.ListN.{length, get_or}
 use lib.Dec.{eqb, leb, ltb}
 use native.Mathlib.Omega.{arith}
 use Rattle.definition.specs.declared.Limits.{Limits}
-use Rattle.definition.specs.Elements.{tag, key, tag_of}
+use Rattle.definition.specs.Elements.{key, tag_of}
 use Rattle.definition.specs.Nesting.{parent_allowed}
-use Rattle.definition.specs.Event.{Event, kind, read_event, in_form, keys_differ, kind_fits, between, attributes_fit, text_fits}
+use Rattle.definition.specs.Event.{Event, read_event, in_form, keys_differ, kind_fits, between, attributes_fit, text_fits}
 use Rattle.definition.specs.Rows.{Table, num, Numbers, table_of, Store, last_of, innermost, parent_tag}
 use Rattle.definition.specs.Look.{Look, look, text_after}
 use Rattle.definition.specs.Change.{entered}

@@ -6,8 +6,8 @@ use mathlib.Core.List.{List, [], ◌∷◌}
 use lib.ListN.{length}
 use lib.Dec.{eqb, leb}
 use native.Mathlib.Omega.{arith}
-use Rattle.definition.specs.Elements.{tag, key}
-use Rattle.definition.specs.Rows.{Row, Table, columns_of, Numbers, table_of, table, chart, state, choices, current_state, root, shallow}
+use Rattle.definition.specs.Elements.{key}
+use Rattle.definition.specs.Rows.{Row, Table, columns_of, Numbers, table_of, table, chart, state, choices, current_state, shallow}
 use Rattle.definition.specs.Shapes.{shape_at}
 use Rattle.definition.specs.Look.{Look}
 use Rattle.definition.specs.Change.{Put, ◌≔◌, numbers, shape, Change, Outcome, done, nothing, edited_by, filled_by, altering, shape_of, add_member, has, code_for}

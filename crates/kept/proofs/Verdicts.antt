@@ -7,7 +7,7 @@ use lib.ListN.{length, length-append}
 use lib.Dec.{eqb, leb}
 use native.Mathlib.Omega.{arith}
 use Rattle.definition.specs.declared.Limits.{Limits}
-use Rattle.definition.specs.Elements.{tag, among}
+use Rattle.definition.specs.Elements.{among}
 use Rattle.definition.specs.Nesting.{nesting, allowed_in, parent_allowed}
 use Rattle.definition.specs.Rows.{Row, Table, num, Numbers, table_of, last_of, innermost, parent_tag}
 use Rattle.definition.specs.Look.{Look}

@@ -1,14 +1,14 @@
 -- A chart's lines, row by row.
-use mathlib.Core.Path.{◌≡◌, refl, ap, ◌∙◌}
+use mathlib.Core.Path.{◌≡◌, refl}
 use mathlib.Core.List.{List, [], ◌∷◌, ◌++◌}
 use Prim.Native.Nat.{ℕ, suc, ◌+◌, ◌≤◌, ◌<◌}
 use native.Mathlib.Numerals.{add-one}
 use native.Mathlib.Omega.{arith}
 use lib.ListN.{length, get_or, take, drop, drop_of_length-le}
 use lib.Seq.{drop-cons}
-use borrow.Author.Tests.{eq-eqb, ne_eqb}
+use borrow.Author.Tests.{ne_eqb}
 use Rattle.definition.specs.Text.{str, decimal}
-use Rattle.definition.specs.Rows.{Row, Table, num}
+use Rattle.definition.specs.Rows.{Table, num}
 use Rattle.printing.specs.Added.{Added}
 use Rattle.printing.specs.Lines.{line}
 use Rattle.listing.specs.Listing.{state_lines, states_from, type_word, transition_lines, transitions_from, listing}

@@ -14,7 +14,6 @@ use Rattle.names.specs.Names.{names_in}
 use Rattle.names.proofs.NamesLaw.{names_law}
 use Rattle.plain.specs.Plain.{Parsed, parsed_of}
 use Rattle.plan.specs.declared.Heard.{Heard}
-use Rattle.plan.specs.Heard.{heard}
 use Rattle.asked.specs.Asked.{asked_in, questions_by}
 use Rattle.found.specs.Found.{found_in}
 use Rattle.heard.proofs.FieldLaw.{heard_law}

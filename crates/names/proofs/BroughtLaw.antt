@@ -8,7 +8,7 @@ use lib.Dec.{eqb, ltb}
 use lib.ListN.{length, get_or}
 use borrow.Author.Tests.{ltb-true, eqb-true, ne_eqb}
 use Rattle.definition.specs.Text.{same, Piece, place_in, generated_name, state_words_at, emit, pieces}
-use Rattle.definition.specs.Elements.{key, Role, names, role_of, is_masked, is_name, is_names, names_state, number_in, key_names, key_of, among}
+use Rattle.definition.specs.Elements.{Role, names, role_of, is_masked, is_name, is_names, names_state, number_in, key_names, key_of, among}
 use Rattle.definition.specs.Event.{Attribute, Event, has_key, keys_differ}
 use Rattle.definition.specs.Look.{Load, value_loads, text_loads, has_load, is_generated, name_loads, loads_of, own_name, word_names, names_from, names_brought}
 use Rattle.definition.proofs.Base.{same_refl, same_eq, true_is_false, and_no, place_true}

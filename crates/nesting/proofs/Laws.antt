@@ -6,10 +6,10 @@ use Prim.Native.Nat.{ℕ, zero, suc, ◌+◌, ◌-◌, ◌≤◌, ◌<◌}
 use native.Mathlib.Nat.{add-zero}
 use native.Mathlib.Numerals.{add-one}
 use native.Mathlib.Omega.{arith}
-use lib.Dec.{eqb, ltb}
-use lib.ListN.{length, get_or, drop, drop_of_length-le, length-map, get_or-map}
+use lib.Dec.{eqb}
+use lib.ListN.{length, get_or, drop, drop_of_length-le, get_or-map}
 use lib.Seq.{drop-cons}
-use borrow.Author.Tests.{ltb-true, lt-ltb, le-ltb, eq-eqb, ne_eqb, eqb-true}
+use borrow.Author.Tests.{eq-eqb, ne_eqb, eqb-true}
 use Rattle.definition.specs.Elements.{among, holds_text, names_state}
 use Rattle.definition.specs.Nesting.{Below, nesting, allowed_in, parent_allowed}
 use Rattle.nesting.specs.Tables.{parents_of, parent_row, parent_rows, listed}

@@ -1,5 +1,5 @@
 -- The constant tables as they follow from the definition's lists.
-use Rattle.std.specs.Prelude.{ℕ, ◌-◌, true, false, List, [], ◌∷◌, ◌++◌, map, length, get_or, replicate, eqb}
+use Rattle.std.specs.Prelude.{ℕ, ◌-◌, true, false, List, [], ◌∷◌, ◌++◌, map, length, replicate, eqb}
 use Rattle.definition.specs.Nesting.{Below, nesting}
 
 -- The parents of each element that has some, from `state` on.

@@ -1,5 +1,5 @@
 -- What an event's lines have brought: each part by where it is written, and the numbers of its element and keys.
-use Rattle.std.specs.Prelude.{ℕ, ◌+◌, ◌<◌, min, ◌≡◌, Bool, true, false, List, [], ◌∷◌, set, get_or, replicate, ltb}
+use Rattle.std.specs.Prelude.{ℕ, ◌+◌, min, Bool, true, false, List, [], ◌∷◌, set, get_or, replicate, ltb}
 use Rattle.definition.specs.Limits.{limits01}
 use Rattle.parts.specs.declared.Part.{Part}
 use Rattle.parts.specs.declared.Pair.{Pair}

@@ -1,8 +1,6 @@
 -- Lists, and the frame of every handler's law.
-use Prim.Native.Nat.{ℕ, zero, suc}
-use mathlib.Core.Path.{◌≡◌, refl, sym, ap, ◌∙◌}
-use mathlib.Core.List.{List, [], ◌∷◌, ◌++◌, reverse}
-use lib.ListN.{length, get_or}
+use Prim.Native.Nat.{ℕ}
+use mathlib.Core.List.{[], ◌∷◌}
 use Rattle.definition.specs.Rows.{Table, Numbers, table_of}
 use Rattle.definition.specs.Look.{Look}
 

@@ -1,19 +1,16 @@
 -- else and elseif; onentry, onexit, finalize.
 use Prim.Native.Nat.{ℕ, zero, suc}
-use mathlib.Core.Path.{◌≡◌, refl, sym, ap, ◌∙◌, subst}
-use mathlib.Core.List.{List, [], ◌∷◌, ◌++◌, reverse, reverse-reverse, append_assoc}
-use lib.ListN.{length, take}
-use lib.Dec.{eqb}
-use lib.Seq.{take-length, append_snoc}
-use Rattle.definition.specs.Elements.{tag, key}
+use mathlib.Core.Path.{◌≡◌, refl, sym, ap, subst}
+use mathlib.Core.List.{[], ◌∷◌, reverse-reverse, append_assoc}
+use lib.ListN.{take}
 use Rattle.definition.specs.Look.{Look}
-use Rattle.definition.specs.Rows.{Row, Table, table, num, entry, list, Numbers, current_state}
-use Rattle.definition.specs.Change.{◌≔◌, numbers, Change, Outcome, done, nothing, altering, pushed, made, fresh_region, nested_region, open_region_row}
-use Rattle.definition.specs.Actions.{Walk, meets, nowhere, no_if, walk_from, walked, start_else, else_if_branch, start_else_if, start_region, end_listed, end_finalize, last_invoke}
+use Rattle.definition.specs.Rows.{Row, Table, table, num, entry, Numbers, current_state}
+use Rattle.definition.specs.Change.{◌≔◌, numbers, Change, done, nothing, altering, pushed, made, fresh_region}
+use Rattle.definition.specs.Actions.{Walk, meets, nowhere, no_if, walk_from, walked, start_else, start_else_if, start_region, end_listed, end_finalize, last_invoke}
 use Rattle.definition.specs.Reader.{on_done, started, finished}
 use Rattle.definition.proofs.Changes.{without_snoc}
 use Rattle.plan.specs.declared.Plan.{Plan}
-use Rattle.plan.specs.Plan.{Planned, planned}
+use Rattle.plan.specs.Plan.{planned}
 use Rattle.plan.specs.After.{verdict_of}
 use Rattle.plan.specs.declared.Seen.{Seen}
 use Rattle.plan.specs.declared.Closing.{Closing}
@@ -22,7 +19,7 @@ use Rattle.plan.specs.Seen.{seen, walked_as, walk_in, closes}
 use Rattle.plan.specs.Plans.{walked_p, else_plan, else_p, else_if_plan, else_if_p, region_p, end_listed_p, both_listed_p, end_finalize_p, both_finalize_p}
 use Rattle.plan.proofs.Base.{Tables, full, looked}
 use Rattle.plan.proofs.Laws.{back, last_snoc}
-use Rattle.plan.proofs.Frame.{Next, to_open, to_end, to_both, Meets, by_unless, by_unless_as, by_either, by_closing}
+use Rattle.plan.proofs.Frame.{Next, to_open, to_end, to_both, Meets, by_unless, by_unless_as, by_closing}
 
 by_walked : (m : ℕ) (l : Look) (n : Numbers) (k : Next) (w : Walk) (r : ℕ) (x : Change) (f : ℕ → Plan)
     → ((e : ℕ) → Meets m l n k (done (altering (numbers table.entries) e (entry.else ≔ r ∷ []) x)) (planned (f e))) → Meets m l n k (done x) (planned (f 0)) → Meets m l n k (walked w r x) (walked_p (walked_as w) (f (walked_as w).at))

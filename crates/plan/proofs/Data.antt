@@ -1,8 +1,8 @@
 -- initial, donedata, data, invoke; param and content.
-use Prim.Native.Nat.{ℕ, zero, suc}
-use mathlib.Core.Path.{◌≡◌, refl, sym, ap, ◌∙◌}
+use Prim.Native.Nat.{ℕ, suc}
+use mathlib.Core.Path.{refl}
 use mathlib.Core.Bool.{Bool, true, false, ◌||◌}
-use mathlib.Core.List.{List, [], ◌∷◌, ◌++◌, reverse, reverse-reverse}
+use mathlib.Core.List.{[], ◌∷◌, reverse-reverse}
 use lib.ListN.{length}
 use lib.Dec.{eqb}
 use lib.Seq.{take-length}
@@ -11,8 +11,8 @@ use Rattle.definition.specs.Event.{kind}
 use Rattle.definition.specs.Look.{Look}
 use Rattle.definition.specs.Rows.{Table, table, datum, entry, entry_kind, state, num, row_of, Numbers, table_of, current_state, parent_tag}
 use Rattle.definition.specs.Change.{◌≔◌, shape, adding, altering, Outcome, done, refuse, nothing, has}
-use Rattle.definition.specs.States.{value_shape, start_initial, start_donedata, start_data}
-use Rattle.definition.specs.Actions.{start_invoke, by_parent, new_parameter, of_last_send, of_last_invoke, of_donedata, start_param, send_content, content_of_send, start_content, last_entry, last_invoke}
+use Rattle.definition.specs.States.{start_initial, start_donedata, start_data}
+use Rattle.definition.specs.Actions.{start_invoke, by_parent, of_last_send, of_last_invoke, of_donedata, start_param, start_content, last_entry, last_invoke}
 use Rattle.definition.specs.Reader.{on_done, started}
 use Rattle.plan.specs.Ids.{state_id}
 use Rattle.plan.specs.Plan.{on_datum, Planned, planned, refused}

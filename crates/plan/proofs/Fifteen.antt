@@ -1,32 +1,22 @@
 -- 15 is a check of counts: every table after the event has as many rows as before and those that the plan adds.
 use Prim.Native.Nat.{ℕ, zero, suc, ◌+◌}
-use mathlib.Core.Path.{◌≡◌, refl, sym, ap, ◌∙◌, subst}
+use mathlib.Core.Path.{◌≡◌, refl, ap, ◌∙◌}
 use mathlib.Core.Bool.{Bool, true, false, ◌&&◌}
 use mathlib.Core.List.{List, [], ◌∷◌, ◌++◌, map}
-use lib.ListN.{length, get_or, take, drop, length-append, length-map}
+use lib.ListN.{length, get_or, drop, length-append, length-map}
 use lib.Seq.{get_or-set_same, get_or-set_other}
 use lib.Dec.{leb}
 use native.Mathlib.Omega.{arith}
 use Rattle.definition.specs.declared.Limits.{Limits}
-use Rattle.definition.specs.Rows.{Row, Table, table, list, Numbers, table_of}
+use Rattle.definition.specs.Rows.{Row, Table, list, Numbers, table_of}
 use Rattle.definition.specs.Look.{Look}
 use Rattle.definition.specs.Change.{state_row, entered}
 use Rattle.definition.specs.Rules.{all_within, chart_limits, counters_within, within_limits}
 use Rattle.definition.specs.Reader.{all_at_most}
 use Rattle.definition.proofs.Changes.{alter_length}
-use Rattle.plan.specs.declared.ChartPlan.{ChartPlan}
-use Rattle.plan.specs.declared.StatePlan.{StatePlan}
-use Rattle.plan.specs.declared.TransitionPlan.{TransitionPlan}
-use Rattle.plan.specs.declared.RegionPlan.{RegionPlan}
-use Rattle.plan.specs.declared.EntryPlan.{EntryPlan}
-use Rattle.plan.specs.declared.InvokePlan.{InvokePlan}
-use Rattle.plan.specs.declared.DatumPlan.{DatumPlan}
-use Rattle.plan.specs.declared.ParameterPlan.{ParameterPlan}
-use Rattle.plan.specs.declared.MemberPlan.{MemberPlan}
 use Rattle.plan.specs.declared.MembersPlan.{MembersPlan}
 use Rattle.plan.specs.declared.Plan.{Plan}
-use Rattle.plan.specs.Plan.{Planned, planned, refused}
-use Rattle.plan.specs.After.{added_if, member_row, chart_after, states_after, transitions_after, regions_after, entries_after, invokes_after, datums_after, parameters_after, member_rows, word_rows, targets_after, words_in, words_after, member_after, members_after, applied, move_of, verdict_of}
+use Rattle.plan.specs.After.{added_if, member_row, chart_after, states_after, transitions_after, regions_after, entries_after, invokes_after, datums_after, parameters_after, member_rows, word_rows, targets_after, words_in, words_after, member_after, members_after, applied}
 use Rattle.plan.specs.Decided.{one_unless, unless, members_added, counts_after, stays_within}
 
 -- ---- lengths

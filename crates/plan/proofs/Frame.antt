@@ -3,20 +3,19 @@ use Prim.Native.Nat.{ℕ, zero, suc}
 use mathlib.Core.Path.{◌≡◌, refl, sym, ap, ◌∙◌, subst}
 use mathlib.Core.Bool.{Bool, true, false}
 use mathlib.Core.Option.{Option, none, some}
-use mathlib.Core.List.{List, [], ◌∷◌, ◌++◌, reverse, reverse-reverse}
+use mathlib.Core.List.{reverse, reverse-reverse}
 use lib.ListN.{length, take}
 use lib.Dec.{eqb}
 use Rattle.definition.specs.Rows.{Table, table, Numbers, table_of, current_state}
 use Rattle.definition.specs.Look.{Look}
 use Rattle.definition.specs.Change.{Change, Outcome, done, refuse, nothing, made, pushed, popped, unless_zero, Closed, closed_by, on_closed, closing}
 use Rattle.definition.specs.States.{initial_of, unless_initial}
-use Rattle.definition.specs.Reader.{Verdict, accept, reject, on_done, end_of, started, finished}
+use Rattle.definition.specs.Reader.{Verdict, accept, reject, on_done, end_of, finished}
 use Rattle.definition.proofs.Changes.{without_snoc}
 use native.Mathlib.Omega.{arith}
 use Rattle.plan.specs.declared.Plan.{Plan}
 use Rattle.plan.specs.Plan.{Planned, planned, refused}
 use Rattle.plan.specs.After.{applied, verdict_of}
-use Rattle.plan.specs.declared.Seen.{Seen}
 use Rattle.plan.specs.declared.Closing.{Closing}
 use Rattle.plan.specs.Seen.{closed_at, closes, seen}
 use Rattle.plan.specs.Plans.{unless_zero_p, closing_p, unless_initial_p}

@@ -1,13 +1,13 @@
 -- Laws of lists and rows that every handler uses.
 use Prim.Native.Nat.{ℕ, zero, suc, ◌+◌, ◌≤◌, ◌<◌}
-use mathlib.Core.Path.{◌≡◌, refl, sym, ap, ◌∙◌, subst}
+use mathlib.Core.Path.{◌≡◌, refl, ap, ◌∙◌, subst}
 use mathlib.Core.Bool.{Bool, true, false}
 use mathlib.Core.Option.{Option, none, some}
-use mathlib.Core.List.{List, [], ◌∷◌, ◌++◌, reverse, reverse_aux, reverse-reverse, reverse_aux-eq, reverse-append, append_assoc}
+use mathlib.Core.List.{[], ◌∷◌, ◌++◌, reverse, reverse_aux, reverse-reverse, reverse_aux-eq, reverse-append}
 use lib.ListN.{length, get_or, set, take}
 use lib.Dec.{eqb, eqb_refl, eqb→eq}
 use Rattle.definition.proofs.Base.{is_true_lem, T_of}
-use lib.Seq.{take-suc, take-length, get_or-set_same, get_or-set_other, set_comm}
+use lib.Seq.{take-suc, take-length, get_or-set_other, set_comm}
 use native.Mathlib.Omega.{arith}
 use Rattle.definition.specs.Rows.{Row, Table, num, row_of, last_of, open_region}
 use Rattle.definition.specs.Change.{alter_row, Closed, closed_by}

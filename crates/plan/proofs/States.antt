@@ -2,16 +2,15 @@
 use Prim.Native.Nat.{ℕ, zero, suc}
 use mathlib.Core.Path.{◌≡◌, refl, sym, ap, subst, ◌∙◌}
 use mathlib.Core.Bool.{Bool, true, false}
-use mathlib.Core.List.{List, [], ◌∷◌, ◌++◌, reverse, reverse-reverse, append_assoc}
-use lib.ListN.{length, drop}
-use lib.Dec.{eqb}
+use mathlib.Core.List.{List, [], ◌∷◌, ◌++◌, reverse, reverse-reverse}
+use lib.ListN.{drop}
 use lib.Seq.{take-length}
-use Rattle.definition.specs.Elements.{tag, key}
+use Rattle.definition.specs.Elements.{key}
 use Rattle.definition.specs.Look.{Look}
 use Rattle.definition.specs.Rows.{Table, table, list, chart, shallow, state, transition, member, internal, Numbers, current_state, current_transition}
-use Rattle.definition.specs.Change.{◌≔◌, numbers, shape, Edit, add, alter, Change, done, nothing, altering, has, code_for, edited, edited_by}
+use Rattle.definition.specs.Change.{◌≔◌, numbers, shape, Edit, add, alter, Change, done, altering, has, code_for, edited, edited_by}
 use Rattle.definition.specs.States.{own_state, other_states, initial_transition, is_child, child_of, declared, start_state, start_parallel, start_final, in_history, start_history, binding, start_scxml}
-use Rattle.definition.specs.Reader.{on_done, started, finished}
+use Rattle.definition.specs.Reader.{on_done, started}
 use Rattle.definition.proofs.Changes.{edits_append}
 use Rattle.plan.specs.declared.Plan.{Plan}
 use Rattle.plan.specs.Plan.{on_chart, Planned, planned}
@@ -19,12 +18,12 @@ use Rattle.plan.specs.After.{states_after, transitions_after, members_after, ver
 use Rattle.plan.specs.declared.Seen.{Seen}
 use Rattle.plan.specs.Seen.{child_member, seen}
 use Rattle.plan.specs.Heard.{heard}
-use Rattle.plan.specs.Plans.{parent_to, declared_row, initial_row, docs_after, ids_after, initial_if, declared_members, declared_plan, state_p, parallel_p, final_p, history_member, history_p, binding_to, not_child, scxml_plan, scxml_p}
+use Rattle.plan.specs.Plans.{parent_to, declared_row, initial_row, docs_after, ids_after, initial_if, declared_members, declared_plan, state_p, parallel_p, final_p, history_member, history_p, binding_to, not_child, scxml_p}
 use Rattle.plan.specs.declared.Declared.{Declared}
 use Rattle.plan.proofs.Base.{Tables, full, looked}
 use Rattle.plan.proofs.Laws.{draw_id_lem, draw_doc_lem, draw_zero, draw_one, alter_alter}
 use Rattle.plan.proofs.Loops.{also_all, member_edits, members_all, edits_two, edits_three, edits_four, members_rows}
-use Rattle.plan.proofs.Frame.{Next, to_open, to_end, to_both, Meets, by_unless, by_either}
+use Rattle.plan.proofs.Frame.{Next, to_open, Meets}
 
 others_drop : (vs : List ℕ) → other_states vs ≡ drop 1 vs
 unfolding other_states

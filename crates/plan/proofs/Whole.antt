@@ -1,23 +1,23 @@
 -- An empty state, and an empty scxml: declared, and given its default initial.
 use Prim.Native.Nat.{ℕ, zero, suc, ◌<◌}
-use mathlib.Core.Path.{◌≡◌, refl, sym, ap, ◌∙◌, subst}
-use mathlib.Core.Bool.{Bool, true, false, ◌&&◌}
-use mathlib.Core.List.{List, [], ◌∷◌, ◌++◌, reverse, reverse-reverse}
+use mathlib.Core.Path.{◌≡◌, refl, sym, ap, ◌∙◌}
+use mathlib.Core.Bool.{Bool, true, false}
+use mathlib.Core.List.{[], ◌∷◌}
 use lib.ListN.{length, get_or, set, take}
 use lib.Dec.{eqb}
 use lib.Seq.{take-length, get_or-set_same, get_or-set_other}
 use native.Mathlib.Omega.{arith}
-use Rattle.definition.specs.Elements.{tag, key}
+use Rattle.definition.specs.Elements.{key}
 use Rattle.definition.specs.Look.{Look}
-use Rattle.definition.specs.Rows.{Row, Table, table, list, num, row_of, same_list, Numbers, table_of, current_state, root}
+use Rattle.definition.specs.Rows.{Row, Table, num, row_of, same_list, Numbers, table_of}
 use Rattle.definition.specs.Change.{has}
-use Rattle.definition.specs.States.{own_state, is_child, initial_of, start_state, start_scxml}
-use Rattle.definition.specs.Reader.{Verdict, accept, end_of}
+use Rattle.definition.specs.States.{own_state, initial_of, start_state, start_scxml}
+use Rattle.definition.specs.Reader.{accept, end_of}
 use Rattle.definition.proofs.Changes.{without_snoc}
 use Rattle.plan.specs.declared.ChartPlan.{ChartPlan}
 use Rattle.plan.specs.declared.MemberPlan.{MemberPlan}
 use Rattle.plan.specs.declared.Plan.{Plan}
-use Rattle.plan.specs.Plan.{no_chart, no_member, on_chart, Planned, planned, idle, inside}
+use Rattle.plan.specs.Plan.{no_chart, no_member, on_chart, Planned, planned, inside}
 use Rattle.plan.specs.After.{chart_after, put, added_if, member_row, applied, verdict_of}
 use Rattle.plan.specs.declared.Seen.{Seen}
 use Rattle.plan.specs.declared.Heard.{Heard}
@@ -27,7 +27,7 @@ use Rattle.plan.specs.Plans.{unless_zero_p, idle_in, as_child, declared_plan, de
 use Rattle.plan.specs.declared.Declared.{Declared}
 use Rattle.plan.proofs.Base.{Tables, full, tables_of, looked}
 use Rattle.plan.proofs.Laws.{last_snoc, alter_alter, alter_keeps, alter_sets, put_keeps, initial_early, suc_not_zero}
-use Rattle.plan.proofs.Frame.{to_open, to_end, to_both, Meets, by_then}
+use Rattle.plan.proofs.Frame.{to_both, Meets, by_then}
 use Rattle.plan.proofs.States.{start_state_lem, start_scxml_lem}
 use Rattle.plan.proofs.Defaults.{first_append, end_state_lem, end_scxml_lem}
 

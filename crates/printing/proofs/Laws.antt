@@ -2,17 +2,17 @@
 use mathlib.Core.Path.{◌≡◌, refl, ap, ap₂, sym, ◌∙◌}
 use mathlib.Core.List.{List, [], ◌∷◌, ◌++◌, append_assoc, append-nil}
 use mathlib.Core.Bool.{Bool, true, false}
-use Prim.Native.Nat.{ℕ, zero, suc, ◌+◌, ◌-◌, ◌*◌, ◌/◌, ◌%◌, ◌≤◌, ◌<◌}
+use Prim.Native.Nat.{ℕ, zero, suc, ◌+◌, ◌*◌, ◌/◌, ◌%◌, ◌≤◌, ◌<◌}
 use native.Mathlib.Numerals.{add-one}
 use native.Mathlib.Omega.{arith}
-use lib.Dec.{eqb, ltb}
-use lib.ListN.{length, get_or, take, drop, set, length-set, length-take, length-append, drop_of_length-le}
-use lib.Seq.{take_all, take_at, take-suc-set, take-take, drop-cons, length-take-le}
-use borrow.Author.Tests.{eq-eqb, ne_eqb, ltb-true, ltb-false, lt-ltb, le-ltb}
+use lib.Dec.{ltb}
+use lib.ListN.{length, get_or, take, drop, set, length-set, length-append, drop_of_length-le}
+use lib.Seq.{take_all, take_at, take-suc-set, drop-cons, length-take-le}
+use borrow.Author.Tests.{eq-eqb, ne_eqb, ltb-true, ltb-false}
 use Rattle.words.proofs.Laws.{by}
 use Rattle.written.proofs.Laws.{digits_one, digits_more}
-use Rattle.definition.specs.Text.{digits, decimal, str}
-use Rattle.definition.specs.Rows.{Row, Table, num, row_of, listed, same_list, values_of}
+use Rattle.definition.specs.Text.{digits, decimal}
+use Rattle.definition.specs.Rows.{Table, num, listed, same_list, values_of}
 use Rattle.printing.specs.Added.{Added, Begun}
 use Rattle.printing.specs.Lines.{escape, escaped, gap, spaced_from, spaced, line, numbers_of}
 

@@ -1,14 +1,14 @@
 -- THEOREM: a name that is printed reads back as itself, by the definition's own reading of an event's lines.
-use mathlib.Core.Path.{◌≡◌, refl, ap, sym, ◌∙◌}
-use mathlib.Core.Bool.{Bool, true, false}
-use mathlib.Core.Option.{Option, some}
-use mathlib.Core.List.{List, [], ◌∷◌, ◌++◌}
+use mathlib.Core.Path.{◌≡◌, refl}
+use mathlib.Core.Bool.{false}
+use mathlib.Core.Option.{some}
+use mathlib.Core.List.{List, [], ◌∷◌}
 use Prim.Native.Nat.{ℕ}
 use lib.Dec.{eqb}
-use borrow.Author.Tests.{eqb-true, ne_eqb, eqb-false}
+use borrow.Author.Tests.{eqb-true, eqb-false}
 use Rattle.words.proofs.Laws.{by}
 use Rattle.definition.specs.Event.{unescape_from, prepend}
-use Rattle.printing.specs.Lines.{escape, escaped}
+use Rattle.printing.specs.Lines.{escaped}
 use Rattle.printing.proofs.Laws.{escape_line, escape_slash, escape_other}
 
 pub reads_back : (w : List ℕ) → unescape_from false (escaped w) ≡ some w

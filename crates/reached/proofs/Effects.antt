@@ -11,7 +11,7 @@ use Rattle.definition.specs.Nesting.{parent_allowed, allowed_in, nesting}
 use Rattle.definition.specs.Rows.{Row, Table, num, row_of, blank, columns_of, Numbers, current_state}
 use Rattle.definition.specs.Shapes.{Shape, shape_at, shapes_in, shapes_by_element}
 use Rattle.definition.specs.Look.{Look}
-use Rattle.definition.specs.Change.{Put, ◌≔◌, Which, numbers, shape, add, alter, Change, done, also, adding, altering, in_state, inside, add_words, shape_of, nothing, on_table, edited, edited_by, filled_by, put_all, put_one, alter_row, has, code_for, words_of}
+use Rattle.definition.specs.Change.{Put, ◌≔◌, Which, numbers, shape, add, alter, Change, also, adding, altering, in_state, inside, add_words, shape_of, nothing, on_table, edited, edited_by, filled_by, put_all, put_one, alter_row, has, code_for, words_of}
 use Rattle.definition.specs.States.{own_state, declared, binding, start_scxml, start_donedata}
 use Rattle.definition.specs.Actions.{last_with, start_invoke}
 use Rattle.definition.proofs.Changes.{edits_append}

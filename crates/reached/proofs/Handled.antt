@@ -9,7 +9,7 @@ use lib.Dec.{eqb, leb}
 use borrow.Author.Tests.{eqb-true, leb-true}
 use native.Mathlib.Omega.{arith}
 use Rattle.definition.specs.Elements.{among}
-use Rattle.definition.specs.Rows.{Row, Table, num, Numbers, innermost, parent_tag, root, last_of}
+use Rattle.definition.specs.Rows.{Row, Table, num, Numbers, innermost, parent_tag, last_of}
 use Rattle.definition.specs.Look.{Look}
 use Rattle.definition.specs.Change.{Change, Outcome, done, refuse, on_table, made, with_tables, pushed, popped, opened_row}
 use Rattle.definition.specs.Reader.{only_nest, starts, start_of, end_of, Verdict, accept, reject, on_done, started, finished, handled}

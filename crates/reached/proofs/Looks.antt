@@ -9,8 +9,8 @@ use lib.Dec.{eqb, ltb}
 use borrow.Author.Tests.{eqb-true, ltb-true}
 use native.Mathlib.Omega.{arith}
 use Rattle.definition.specs.Text.{Piece}
-use Rattle.definition.specs.Elements.{Role, name, names, role_of, is_masked, is_name, among, names_state, tag_of}
-use Rattle.definition.specs.Event.{Event, kind}
+use Rattle.definition.specs.Elements.{Role, name, role_of, is_masked, is_name, among, names_state, tag_of}
+use Rattle.definition.specs.Event.{Event}
 use Rattle.definition.specs.Rows.{Row, Table, num, blank, Cell, Numbers, Store, innermost, parent_tag, last_of}
 use Rattle.definition.specs.Look.{Load, Look, look, has_load, is_generated, name_loads, text_loads, value_loads, loads_of, own_name, word_names, names_from, names_brought, find_name, enter, piece_cell, resolve, is_named, is_innermost}
 use Rattle.definition.specs.Change.{on_table, state_row, entered}

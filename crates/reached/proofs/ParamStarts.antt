@@ -13,7 +13,7 @@ use Rattle.definition.specs.Nesting.{parent_allowed, allowed_in, nesting}
 use Rattle.definition.specs.Rows.{Row, Table, num, row_of, columns_of, Numbers, current_state, parent_tag}
 use Rattle.definition.specs.Shapes.{Shape, shape_at, shapes_in, shapes_by_element}
 use Rattle.definition.specs.Look.{Look}
-use Rattle.definition.specs.Change.{◌≔◌, shape, alter, Change, Outcome, done, refuse, also, adding, altering, shape_of, nothing, edited_by, filled_by, put_all, alter_row, has}
+use Rattle.definition.specs.Change.{◌≔◌, shape, alter, Change, Outcome, refuse, also, adding, altering, shape_of, nothing, edited_by, filled_by, put_all, alter_row, has}
 use Rattle.definition.specs.Actions.{last_with, last_entry, last_invoke, by_parent, new_parameter, of_last_send, of_last_invoke, of_donedata, start_param, send_content, content_of_send, start_content}
 use Rattle.definition.specs.Reader.{only_nest}
 use Rattle.definition.proofs.Base.{and_both}

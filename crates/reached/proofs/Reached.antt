@@ -7,7 +7,7 @@ use lib.ListN.{length, get_or, set, length-set}
 use lib.Seq.{get_or-set_same}
 use native.Mathlib.Omega.{arith}
 use Rattle.definition.specs.Elements.{among}
-use Rattle.definition.specs.Rows.{Row, Table, num, Numbers, innermost, current_state, current_transition, parent_tag, root}
+use Rattle.definition.specs.Rows.{Row, Table, num, Numbers, innermost, current_state, current_transition, parent_tag}
 use Rattle.definition.specs.Look.{Look}
 use Rattle.definition.specs.Change.{Change, on_table, edited_by, made, with_tables, pushed, popped, opened_row, without_last}
 use Rattle.reached.proofs.Tables.{top_of, rest_of, last_reverse, without_reverse, AllRows, all_map}

@@ -13,7 +13,7 @@ use Rattle.definition.specs.Nesting.{parent_allowed, allowed_in, nesting}
 use Rattle.definition.specs.Rows.{Row, Numbers, current_state, parent_tag}
 use Rattle.definition.specs.Shapes.{shape_at, shapes_in, shapes_by_element}
 use Rattle.definition.specs.Look.{Look}
-use Rattle.definition.specs.Change.{Put, ◌≔◌, numbers, shape, add, Change, done, also, adding, altering, drawn, draw_id, draw_doc, next_id, next_doc, inside, in_transition, add_members, add_words, open_region_row, region_over, fresh_region, nested_region, closed_by, on_closed, closing, shape_of, nothing, has, code_for, words_of}
+use Rattle.definition.specs.Change.{Put, ◌≔◌, numbers, shape, add, Change, also, adding, altering, drawn, draw_id, draw_doc, next_id, next_doc, inside, in_transition, add_members, add_words, open_region_row, region_over, fresh_region, nested_region, closed_by, on_closed, closing, shape_of, nothing, has, code_for, words_of}
 use Rattle.definition.specs.Actions.{type_of, join_state, new_transition, start_transition, start_region, new_entry, entry_of, start_log, start_assign, root_script, start_script, block}
 use Rattle.definition.specs.Reader.{only_nest}
 use Rattle.definition.proofs.Base.{and_both}

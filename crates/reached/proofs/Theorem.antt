@@ -11,7 +11,7 @@ use Rattle.definition.specs.declared.Limits.{Limits}
 use Rattle.definition.specs.Elements.{names_state}
 use Rattle.definition.specs.Nesting.{parent_allowed}
 use Rattle.definition.specs.Event.{Event, read_event, in_form, kind_fits, keys_differ}
-use Rattle.definition.specs.Rows.{blank, Numbers, Store, no_tables, empty, innermost, parent_tag, root}
+use Rattle.definition.specs.Rows.{blank, Numbers, Store, no_tables, empty, parent_tag, root}
 use Rattle.definition.specs.Look.{Look, look, text_after}
 use Rattle.definition.specs.Change.{entered}
 use Rattle.definition.specs.Rules.{within_limits}

@@ -9,7 +9,7 @@ use lib.Seq.{take-append_seam}
 use native.Mathlib.Omega.{arith}
 use Rattle.definition.specs.declared.Limits.{Limits}
 use Rattle.definition.specs.Text.{all_allowed}
-use Rattle.definition.specs.Elements.{Role, names}
+use Rattle.definition.specs.Elements.{Role}
 use Rattle.definition.specs.Rows.{Row, Table, table, shown, blank, Cell, no_cell, cell_at, text_from, text_at, Numbers, Store, role_at}
 use Rattle.definition.specs.Rules.{table_limits, keeps_rules}
 use Rattle.definition.specs.declared.Position.{Position}

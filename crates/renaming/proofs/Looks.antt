@@ -10,7 +10,7 @@ use lib.Seq.{drop-append_seam}
 use borrow.Author.Tests.{eqb-true}
 use native.Mathlib.Omega.{arith}
 use Rattle.definition.specs.Text.{same}
-use Rattle.definition.specs.Elements.{tag, key, Role, name, names, plain, role_of, is_masked, is_name, is_names, names_state, among, tag_of, key_of}
+use Rattle.definition.specs.Elements.{tag, key, Role, name, plain, role_of, is_masked, is_name, is_names, names_state, among, tag_of, key_of}
 use Rattle.definition.specs.Event.{Attribute, Event}
 use Rattle.definition.specs.Rows.{Row, Table, table, state, datum, schema, text_role, columns_of, num, Cell, cell_at, text_at, Numbers, table_of, current_state, role_at}
 use Rattle.definition.specs.Look.{Load, value_loads, is_generated, payload, fields_from, name_cells, resolve, names_brought, id_in, find_datum, loads_of, values_length, event_charge, look, one_if, is_innermost, kept_name, name_row}

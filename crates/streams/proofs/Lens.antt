@@ -1,10 +1,9 @@
 -- The lent slices keep their lengths.
 use Prim.Native.Nat.{ℕ}
-use mathlib.Core.Path.{◌≡◌, refl, ◌∙◌}
+use mathlib.Core.Path.{◌≡◌, refl}
 use mathlib.Core.List.{List}
 use lib.ListN.{length}
 use Rattle.definition.specs.Rows.{Table}
-use Rattle.definition.specs.Reader.{Lent}
 
 -- The twelve tables and the text, before and after.
 pub record Lens (a b c d e f g h i j k l : Table) (t : List ℕ) (a' b' c' d' e' f' g' h' i' j' k' l' : Table) (t' : List ℕ) : Type 0 where

@@ -1,7 +1,7 @@
 -- THE LAWS OF TABLES WITHOUT TEXTS: on the rows in use the code's table is the plan's; what lies beyond stays.
 use Prim.Native.Nat.{ℕ, zero, suc, ◌+◌, ◌-◌, ◌≤◌, ◌<◌}
 use mathlib.Core.Path.{◌≡◌, refl, sym, ap, ap₂, ◌∙◌}
-use mathlib.Core.List.{List, [], ◌∷◌, ◌++◌}
+use mathlib.Core.List.{[], ◌∷◌, ◌++◌}
 use native.Mathlib.Omega.{arith}
 use lib.ListN.{length, set, take, drop, length-append}
 use lib.Seq.{length-take-le, take-take, drop-append-add, drop-drop, take-append_seam}
@@ -13,7 +13,7 @@ use Rattle.plan.specs.declared.MemberPlan.{MemberPlan}
 use Rattle.plan.specs.declared.OpenPlan.{OpenPlan}
 use Rattle.plan.specs.declared.RegionPlan.{RegionPlan}
 use Rattle.plan.specs.declared.OpenRegionPlan.{OpenRegionPlan}
-use Rattle.plan.specs.After.{added_if, region_row, regions_after, member_row, member_after, moved, opened_after, open_names_after, open_regions_after}
+use Rattle.plan.specs.After.{added_if, region_row, regions_after, member_after, moved, opened_after, open_names_after, open_regions_after}
 use Rattle.plan.specs.Decided.{one_unless}
 use Rattle.plan.proofs.Over.{over_start, over_add}
 use Rattle.tables.specs.Whole.{set_unless, after, regions_in, member_in, opened_row, open_row_in, open_regions_in}

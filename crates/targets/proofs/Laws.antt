@@ -1,25 +1,20 @@
 -- Rows in use of a lent table, and rows of names entered one by one.
-use Prim.Native.Nat.{ℕ, zero, suc, ◌+◌, ◌-◌, ◌≤◌, ◌<◌}
+use Prim.Native.Nat.{ℕ, suc, ◌≤◌, ◌<◌}
 use mathlib.Core.Path.{◌≡◌, refl, sym, ap, ap₂, ◌∙◌, subst}
-use mathlib.Core.Bool.{Bool, true, false}
 use mathlib.Core.List.{List, [], ◌∷◌, ◌++◌, map, append_assoc, append-nil}
 use native.Mathlib.Omega.{arith}
 use native.Mathlib.Numerals.{add-one}
 use lib.Dec.{ltb}
-use lib.ListN.{length, get_or, set, take, drop, replicate, length-append, length-drop, length-set, drop_of_length-le, take-append-drop}
-use lib.Seq.{length-take-le, take-suc-set, drop-set-lt, drop-drop, drop-append_seam, take_all}
+use lib.ListN.{length, set, take, drop, replicate, length-append, length-set, take-append-drop}
+use lib.Seq.{length-take-le, take-suc-set, drop-set-lt, drop-drop, drop-append_seam}
 use borrow.Author.Tests.{ltb-true, ltb-false, lt-ltb, le-ltb}
-use Rattle.definition.specs.Text.{bytes_at, Piece, pieces, is_separator, state_words_at}
-use Rattle.definition.specs.Rows.{Row, Table, Cell, table, cell_at, with_cell, blank, columns_of, schema, state_columns}
-use Rattle.definition.specs.Look.{find_name, name_cells, piece_cell, enter, Resolved, resolve}
+use Rattle.definition.specs.Text.{Piece}
+use Rattle.definition.specs.Rows.{Row, Table, Cell, cell_at, with_cell, blank, columns_of, schema, state_columns}
+use Rattle.definition.specs.Look.{find_name, name_cells, piece_cell, enter, resolve}
 use Rattle.definition.specs.Change.{state_row}
 use Rattle.definition.specs.Reader.{over}
 use Rattle.definition.proofs.Finds.{cells_length}
-use Rattle.words.specs.declared.Word.{Word}
-use Rattle.words.specs.Next.{next_word, moved}
-use Rattle.words.proofs.Laws.{by, pieces_moved}
-use Rattle.names.specs.Names.{words_from}
-use Rattle.names.proofs.Laws.{words_next, words_none, words_end, word_lies}
+use Rattle.words.proofs.Laws.{by}
 use Rattle.targets.specs.Enter.{placed_row, count_after, enter_row, enter_all, member_row}
 
 -- ---- rows

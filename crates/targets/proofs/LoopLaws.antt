@@ -1,25 +1,24 @@
 -- The loop over the words of a value: what is written and what is left.
 use Prim.Native.Nat.{ℕ, zero, suc, ◌+◌, ◌-◌, ◌≤◌, ◌<◌}
-use mathlib.Core.Path.{◌≡◌, refl, sym, ap, ap₂, ◌∙◌, subst}
-use mathlib.Core.Bool.{Bool, true, false}
+use mathlib.Core.Path.{◌≡◌, sym, ap, ap₂, ◌∙◌, subst}
+use mathlib.Core.Bool.{true}
 use mathlib.Core.List.{List, [], ◌∷◌, ◌++◌, map, append_assoc, append-nil}
 use native.Mathlib.Omega.{arith}
 use native.Mathlib.Nat.{add-zero}
 use native.Mathlib.Numerals.{add-one}
-use lib.ListN.{length, set, take, drop, length-drop, length-map}
+use lib.ListN.{length, set, take, drop, length-drop}
 use lib.Seq.{length-take-le, drop-drop, take-take, take-nil}
-use Rattle.definition.specs.Text.{bytes_at, Piece, pieces, words_by, is_separator, state_words_at}
+use Rattle.definition.specs.Text.{bytes_at, Piece, pieces, is_separator, state_words_at}
 use Rattle.definition.specs.Rows.{Table, Cell}
 use Rattle.definition.specs.Look.{find_name, name_cells, piece_cell, enter, resolve}
 use Rattle.definition.specs.Rules.{names_lead}
-use Rattle.definition.specs.Reader.{over}
 use Rattle.definition.proofs.Finds.{find_le, cells_length}
 use Rattle.words.specs.declared.Word.{Word}
 use Rattle.words.specs.Next.{next_word, moved}
 use Rattle.words.proofs.Laws.{pieces_moved}
 use Rattle.text.proofs.Laws.{part_at}
 use Rattle.names.specs.Names.{words_from}
-use Rattle.names.proofs.Laws.{words_next, words_none, words_end, word_lies}
+use Rattle.names.proofs.Laws.{words_next, word_lies}
 use Rattle.targets.specs.Enter.{placed_row, count_after, enter_row, enter_all, member_row, names_at, Room, Entered}
 use Rattle.targets.proofs.Laws.{Partly, partly_start, partly_put, partly_took, partly_end, partly_length, cells_enter, all_grows, enter_size, enter_partly}
 use Rattle.targets.proofs.ApartLaws.{apart_entered}

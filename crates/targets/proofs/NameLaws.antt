@@ -1,16 +1,15 @@
 -- For the proofs of the functions on names.
-use Prim.Native.Nat.{ℕ, zero, suc, ◌+◌, ◌-◌, ◌≤◌, ◌<◌}
+use Prim.Native.Nat.{ℕ, zero, suc, ◌+◌, ◌-◌, ◌≤◌}
 use mathlib.Core.Path.{◌≡◌, refl, sym, ap, ap₂, ◌∙◌, subst}
-use mathlib.Core.Bool.{Bool, true, false}
+use mathlib.Core.Bool.{true, false}
 use mathlib.Core.List.{List, [], ◌∷◌, ◌++◌, map, append-nil}
 use native.Mathlib.Omega.{arith}
-use lib.Dec.{eqb}
-use lib.ListN.{length, get_or, take, drop, length-drop, length-take, take-append-drop}
+use lib.ListN.{length, take, drop, length-drop, length-take}
 use lib.Seq.{length-take-le}
 use borrow.Author.Tests.{eq-eqb, ne_eqb}
 use Rattle.definition.specs.Text.{Piece, bytes_at}
 use Rattle.definition.specs.Elements.{names_state}
-use Rattle.definition.specs.Rows.{Row, Table, Cell, cell_at, text_at, text_from}
+use Rattle.definition.specs.Rows.{Table, Cell, cell_at, text_at, text_from}
 use Rattle.definition.specs.Look.{name_cells, find_name, piece_cell, enter, resolve}
 use Rattle.definition.specs.Rules.{names_lead}
 use Rattle.definition.specs.Reader.{over}

@@ -1,5 +1,5 @@
 -- The names that an event brings, by the table of its texts.
-use Rattle.std.specs.Prelude.{ℕ, zero, suc, ◌+◌, ◌-◌, ◌≤◌, ◌≡◌, Bool, true, false, List, [], ◌∷◌, ◌++◌, map, length, take, drop, eqb}
+use Rattle.std.specs.Prelude.{ℕ, zero, suc, ◌+◌, ◌-◌, ◌≤◌, ◌≡◌, true, false, List, [], ◌∷◌, ◌++◌, map, length, take, drop, eqb}
 use Rattle.definition.specs.Text.{Piece}
 use Rattle.definition.specs.Elements.{names_state}
 use Rattle.definition.specs.Rows.{Table, Cell, cell_at, text_at, list}

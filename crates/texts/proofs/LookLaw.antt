@@ -1,14 +1,14 @@
 -- THE LAW OF TEXTS: the table that code makes from an event's loads is the look's.
-use Prim.Native.Nat.{ℕ, zero, suc, ◌+◌, ◌-◌, ◌≤◌, ◌<◌}
+use Prim.Native.Nat.{ℕ, zero, suc, ◌+◌, ◌≤◌, ◌<◌}
 use mathlib.Core.Path.{◌≡◌, refl, sym, ap, ap₂, ◌∙◌}
-use mathlib.Core.Bool.{Bool, true, false}
+use mathlib.Core.Bool.{true, false}
 use mathlib.Core.List.{List, [], ◌∷◌, ◌++◌}
 use mathlib.Core.Option as Option
 use native.Mathlib.Omega.{arith}
 use lib.Dec.{eqb, ltb}
-use lib.ListN.{length, get_or, set, take, drop, replicate, drop_of_length-le, length-set, length-append}
+use lib.ListN.{length, get_or, set, drop, replicate, drop_of_length-le, length-set, length-append}
 use lib.Seq.{drop-cons, get_or-set_same, get_or-set_other}
-use borrow.Author.Tests.{eq-eqb, ne_eqb, eqb-true, eqb-false, ltb-true, ltb-false}
+use borrow.Author.Tests.{ne_eqb, eqb-true, eqb-false, ltb-true, ltb-false}
 use Rattle.definition.specs.Rows.{Cell, no_cell, cell_at, with_cell}
 use Rattle.definition.specs.Elements.{role_of}
 use Rattle.definition.specs.Look.{Load, Field, payload, field_by, fields_from}

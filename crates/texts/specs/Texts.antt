@@ -1,5 +1,5 @@
 -- The table of an event's texts, from its values in order.
-use Rattle.std.specs.Prelude.{ℕ, zero, suc, ◌+◌, Bool, true, false, List, [], ◌∷◌, length, get_or, eqb, ltb}
+use Rattle.std.specs.Prelude.{ℕ, suc, ◌+◌, true, false, List, [], ◌∷◌, length, get_or, eqb, ltb}
 use Rattle.definition.specs.Rows.{Cell, no_cell, with_cell}
 use Rattle.definition.specs.Look.{Load}
 use Rattle.fill.specs.Fill.{cell}

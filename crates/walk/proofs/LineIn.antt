@@ -1,14 +1,13 @@
 -- A line of a stream by its head.
-use Prim.Native.Nat.{ℕ, zero, suc, ◌+◌, ◌-◌, ◌≤◌, ◌<◌}
+use Prim.Native.Nat.{ℕ, zero, suc, ◌+◌, ◌-◌, ◌≤◌}
 use mathlib.Core.Path.{◌≡◌, refl, sym, ap, ◌∙◌, subst}
-use mathlib.Core.Bool.{Bool, true, false, ◌&&◌, and-eq-true_iff}
+use mathlib.Core.Bool.{Bool, true, false, and-eq-true_iff}
 use mathlib.Core.List.{List, [], ◌∷◌, ◌++◌}
 use native.Mathlib.Omega.{arith}
 use lib.Dec.{eqb}
 use lib.ListN.{length, take, drop, length-drop}
 use lib.Seq.{drop-drop, take-add, drop_at, length-take-le}
-use borrow.Author.Tests.{not-true, eqb-true, eqb-false, ne_eqb}
-use Rattle.definition.specs.Text.{str}
+use borrow.Author.Tests.{not-true, eqb-true}
 use Rattle.definition.specs.Event.{after}
 use Rattle.definition.proofs.Base.{true_is_false}
 use Rattle.lines.specs.Lines.{line_length, has_head}

@@ -5,10 +5,9 @@ use mathlib.Core.Bool.{Bool, true, false}
 use mathlib.Core.List.{List, [], ◌∷◌, ◌++◌, append-nil, append_assoc}
 use native.Mathlib.Omega.{arith}
 use lib.Dec.{eqb, leb}
-use lib.ListN.{length, take, drop, set, length-drop, drop_of_length-le}
+use lib.ListN.{length, take, drop, length-drop, drop_of_length-le}
 use borrow.Author.Tests.{le-leb}
 use lib.Seq.{drop-drop, length-take-le}
-use Rattle.definition.proofs.Base.{true_is_false}
 use Rattle.definition.specs.Event.{line_of, lines_from, tail_from, is_nil}
 use Rattle.lines.specs.Lines.{line_length}
 use Rattle.parts.specs.Walked.{Walked}

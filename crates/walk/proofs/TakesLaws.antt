@@ -2,7 +2,7 @@
 use Prim.Native.Nat.{ℕ, ◌+◌, ◌-◌, ◌≤◌, ◌<◌}
 use mathlib.Core.Path.{◌≡◌, refl, sym, ap, ◌∙◌, subst}
 use mathlib.Core.Bool.{Bool, true, false, ◌&&◌, and-eq-true_iff}
-use mathlib.Core.List.{List, [], ◌∷◌}
+use mathlib.Core.List.{List}
 use native.Mathlib.Omega.{arith}
 use lib.Dec.{ltb}
 use lib.ListN.{length, take, drop, length-drop}
@@ -21,7 +21,7 @@ use Rattle.parts.specs.Parts.{broken, with_kind, with_name, with_key, with_text,
 use Rattle.walk.specs.declared.Found.{Found}
 use Rattle.walk.specs.declared.Lined.{Lined}
 use Rattle.walk.specs.Walk.{found, on_event, on_name, on_key, on_value}
-use Rattle.walk.specs.Stream.{Takes, InForm, end_of, line_in}
+use Rattle.walk.specs.Stream.{Takes, end_of, line_in}
 use Rattle.walk.proofs.CodeLaws as C
 use Rattle.walk.proofs.LineIn.{line_head, behind_end, behind_rest, other_head}
 

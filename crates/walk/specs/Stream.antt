@@ -1,5 +1,5 @@
 -- The lines of a stream's first event, walked before its end is known.
-use Rattle.std.specs.Prelude.{ℕ, ◌+◌, ◌≤◌, ◌<◌, ◌≡◌, Bool, true, false, ◌||◌, List, [], length, take, drop, eqb, ltb}
+use Rattle.std.specs.Prelude.{ℕ, ◌+◌, ◌≤◌, ◌<◌, ◌≡◌, true, false, ◌||◌, List, [], length, take, drop, eqb, ltb}
 use Rattle.definition.specs.Text.{str}
 use Rattle.definition.specs.Event.{Line, line_of, lines_from, tail_from}
 use Rattle.lines.specs.Lines.{line_length, has_head, rest_length, event_length}

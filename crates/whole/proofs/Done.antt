@@ -1,15 +1,15 @@
 -- THE LAW OF WRITING: what is lent, and the position, after an accepted event.
-use Prim.Native.Nat.{ℕ, zero, suc, ◌+◌, ◌≤◌}
-use mathlib.Core.Path.{◌≡◌, refl, sym, ap, ap₂, ◌∙◌, subst}
-use mathlib.Core.Bool.{Bool, true}
-use mathlib.Core.List.{List, [], ◌∷◌, ◌++◌}
+use Prim.Native.Nat.{ℕ}
+use mathlib.Core.Path.{◌≡◌, sym, ap, ◌∙◌, subst}
+use mathlib.Core.Bool.{Bool}
+use mathlib.Core.List.{List, [], ◌∷◌}
 use lib.ListN.{length}
 use Rattle.definition.specs.declared.Position.{Position}
 use Rattle.definition.specs.Rows.{Row, Table, Store}
 use Rattle.definition.specs.Event.{Event}
-use Rattle.definition.specs.Look.{one_if, look, kept_name, name_row, text_after}
+use Rattle.definition.specs.Look.{one_if, look, kept_name, name_row}
 use Rattle.definition.specs.Change.{entered}
-use Rattle.definition.specs.Reader.{Lent, store_of, lent_after, over_all, over, position_of}
+use Rattle.definition.specs.Reader.{Lent, store_of, lent_after, over_all, position_of}
 use Rattle.plain.specs.Plain.{Parsed, parsed_of}
 use Rattle.plan.specs.declared.Plan.{Plan}
 use Rattle.plan.specs.After.{move_of, applied}
@@ -18,7 +18,7 @@ use Rattle.payload.proofs.PayloadLaw.{charge_law, made_law}
 use Rattle.fill.specs.Fill.{texts_of}
 use Rattle.apply.specs.Applied.{rows_of, applied_in}
 use Rattle.arena.specs.declared.Written.{Written}
-use Rattle.arena.specs.Storing.{Storable, Stored, texts}
+use Rattle.arena.specs.Storing.{Storable, Stored}
 use Rattle.whole.specs.Accepted.{Accepted, afterwards}
 use Rattle.whole.specs.After.{position_by, InRange}
 use Rattle.whole.proofs.Sizes.{Sized, sized}

@@ -1,18 +1,16 @@
 -- Question 1 and 2 of lent slices, as facts of the store in use.
-use Prim.Native.Nat.{ℕ, zero, suc, ◌+◌, ◌≤◌, ◌<◌}
-use mathlib.Core.Path.{◌≡◌, refl, sym, ap, ap₂, ◌∙◌, subst}
+use Prim.Native.Nat.{ℕ, zero, suc, ◌≤◌, ◌<◌}
+use mathlib.Core.Path.{◌≡◌, refl}
 use mathlib.Core.Bool.{Bool, true, false, ◌&&◌}
-use mathlib.Core.List.{List, [], ◌∷◌, ◌++◌}
+use mathlib.Core.List.{List, [], ◌∷◌}
 use native.Mathlib.Omega.{arith}
 use lib.Dec.{leb}
-use lib.ListN.{length, get_or, take, drop, length-take}
-use lib.Seq.{length-take-le}
-use Rattle.definition.specs.declared.Limits.{Limits}
+use lib.ListN.{length, get_or}
 use Rattle.definition.specs.declared.Position.{Position}
 use Rattle.definition.specs.Limits.{limits01}
-use Rattle.definition.specs.Rows.{Table, Numbers, Store, table_of}
+use Rattle.definition.specs.Rows.{Table}
 use Rattle.definition.specs.Rules.{keeps_rules, table_limits, chart_limits, open_limits}
-use Rattle.definition.specs.Reader.{Lent, counts, taken, store_of, all_long, long_enough, all_at_most, in_order}
+use Rattle.definition.specs.Reader.{Lent, counts, store_of, all_long, long_enough, all_at_most, in_order}
 use Rattle.kept.proofs.Base.{and_left, and_right, false_is_true, le_of}
 
 long_cons : (m : ℕ) (ms : List ℕ) (t : Table) (ts : List Table) → all_long (m ∷ ms) (t ∷ ts) ≡ true → (m ≤ length t) × (all_long ms ts ≡ true)

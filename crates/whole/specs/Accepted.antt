@@ -1,9 +1,9 @@
 -- An event that gets 0, and the store after it.
-use Rattle.std.specs.Prelude.{ℕ, ◌≡◌, Bool, true, List}
+use Rattle.std.specs.Prelude.{ℕ, ◌≡◌, Bool, true}
 use Rattle.definition.specs.declared.Position.{Position}
 use Rattle.definition.specs.Limits.{limits01}
 use Rattle.definition.specs.Event.{Event, in_form, keys_differ}
-use Rattle.definition.specs.Rows.{Numbers, Store}
+use Rattle.definition.specs.Rows.{Store}
 use Rattle.definition.specs.Look.{Look, look, text_after}
 use Rattle.definition.specs.Change.{entered}
 use Rattle.definition.specs.Reader.{Lent, store_of, long_enough, in_order, questions, first_no}

@@ -1,5 +1,5 @@
 -- The reading position after an event.
-use Rattle.std.specs.Prelude.{ℕ, zero, suc, ◌+◌, ◌-◌, ◌<◌, ◌≤◌, ◌≡◌, Bool, true, false}
+use Rattle.std.specs.Prelude.{ℕ, zero, suc, ◌+◌, ◌-◌, ◌<◌, ◌≤◌, ◌≡◌, Bool}
 use Rattle.definition.specs.declared.Position.{Position}
 use Rattle.definition.specs.Look.{one_if}
 use Rattle.plan.specs.declared.Plan.{Plan}

@@ -1,14 +1,14 @@
 -- THE LAW OF LISTS: the rows that the code writes are the definition's members for words and for targets.
-use Prim.Native.Nat.{ℕ, zero, suc, ◌+◌, ◌-◌, ◌≤◌, ◌<◌}
+use Prim.Native.Nat.{ℕ, zero, suc, ◌+◌, ◌≤◌, ◌<◌}
 use mathlib.Core.Path.{◌≡◌, refl, sym, ap, ap₂, ◌∙◌}
-use mathlib.Core.Bool.{Bool, true, false}
+use mathlib.Core.Bool.{true, false}
 use mathlib.Core.List.{List, [], ◌∷◌, ◌++◌, map, append_assoc, append-nil}
 use native.Mathlib.Omega.{arith}
 use lib.ListN.{length, get_or, set, take, drop, length-append, drop_of_length-le}
 use lib.Seq.{length-take-le, drop-cons}
-use Rattle.definition.specs.Text.{Piece, Span, words_by, event_words, state_words, stripped_piece, is_space, is_separator}
+use Rattle.definition.specs.Text.{Piece, words_by, event_words, state_words, stripped_piece, is_space, is_separator}
 use Rattle.definition.specs.Rows.{Row, Table, Cell, no_cell, with_cell}
-use Rattle.definition.specs.Shapes.{Source, word, Filling, shape_at, shapes_in, shapes_by_element}
+use Rattle.definition.specs.Shapes.{word, Filling, shape_at, shapes_in, shapes_by_element}
 use Rattle.definition.specs.Look.{Look, span_of, shift}
 use Rattle.definition.specs.Change.{field_in, field_words, cell_of, filled_by}
 use Rattle.definition.specs.Reader.{over}

@@ -1,14 +1,14 @@
 -- Steps of the code.
-use Prim.Native.Nat.{ℕ, zero, suc, ◌+◌, ◌-◌, ◌≤◌, ◌<◌}
+use Prim.Native.Nat.{ℕ, ◌+◌, ◌-◌, ◌≤◌, ◌<◌}
 use mathlib.Core.Path.{◌≡◌, refl, sym, ap, ap₂, ◌∙◌, subst}
 use mathlib.Core.Bool.{Bool, true, false}
-use mathlib.Core.List.{List, [], ◌∷◌, ◌++◌, map}
+use mathlib.Core.List.{List, [], ◌∷◌, map}
 use native.Mathlib.Omega.{arith}
 use native.Mathlib.Numerals.{add-one}
 use lib.Dec.{ltb}
 use lib.ListN.{length, set, take, drop, drop_of_length-le, length-set, length-take}
 use borrow.Author.Tests.{ltb-true, ltb-false}
-use Rattle.definition.specs.Text.{Piece, pieces, emit, stripped, is_space, is_separator, words_by}
+use Rattle.definition.specs.Text.{pieces, emit, stripped, is_space, is_separator, words_by}
 use Rattle.definition.specs.Rows.{Row, Table, Cell}
 use Rattle.words.specs.declared.Word.{Word}
 use Rattle.words.specs.Next.{parted_by, next_word, piece_at}

@@ -2,14 +2,12 @@
 use Prim.Native.Nat.{ℕ, zero, suc, ◌+◌, ◌-◌, ◌≤◌, ◌<◌}
 use mathlib.Core.Path.{◌≡◌, refl, sym, ap, ap₂, ◌∙◌}
 use mathlib.Core.Bool.{Bool, true, false}
-use mathlib.Core.List.{List, [], ◌∷◌, ◌++◌, map}
+use mathlib.Core.List.{List, [], ◌∷◌}
 use native.Mathlib.Omega.{arith}
-use lib.Dec.{eqb}
-use lib.ListN.{length, get_or, take, drop, length-drop, length-take, drop_of_length-le}
+use lib.ListN.{length, take, drop, length-drop, length-take, drop_of_length-le}
 use borrow.Author.Tests.{eq-eqb, ne_eqb}
 use Rattle.definition.specs.Text.{words_by, pieces, emit, bytes_at}
-use Rattle.definition.specs.Rows.{Row, Table, Cell, num, cell_at, text_at, text_from}
-use Rattle.words.specs.Next.{parted_by}
+use Rattle.definition.specs.Rows.{Row, Table, Cell, cell_at, text_at, text_from}
 use Rattle.plan.specs.declared.MemberPlan.{MemberPlan}
 use Rattle.fill.specs.Fill.{cell, as_cell}
 use Rattle.fill.specs.declared.TextCell.{TextCell}

@@ -1,6 +1,6 @@
 -- What is known on the way: everything has its place, numbers stay small, and at the end it is what the definition says.
 use Prim.Native.Nat.{ℕ, ◌≤◌, ◌<◌}
-use mathlib.Core.Path.{◌≡◌, sym, ap, ◌∙◌, subst}
+use mathlib.Core.Path.{◌≡◌, ap, ◌∙◌}
 use mathlib.Core.Bool.{Bool}
 use mathlib.Core.List.{List, [], ◌∷◌}
 use native.Mathlib.Omega.{arith}
@@ -13,11 +13,10 @@ use Rattle.plain.specs.Plain.{Parsed, parsed_of}
 use Rattle.plain.proofs.PlainLaw.{form}
 use Rattle.plan.specs.declared.Plan.{Plan}
 use Rattle.plan.specs.After.{move_of}
-use Rattle.payload.specs.Payload.{made_in, charge_in}
 use Rattle.apply.specs.Applied.{rows_of, applied_in}
 use Rattle.arena.specs.declared.Written.{Written}
 use Rattle.arena.specs.Storing.{Storable, Stored}
-use Rattle.whole.specs.Accepted.{Accepted, Ready}
+use Rattle.whole.specs.Accepted.{Ready}
 use Rattle.whole.specs.After.{position_by, InRange}
 use Rattle.whole.proofs.Done as D
 use Rattle.write.specs.Leaves.{Leaves}

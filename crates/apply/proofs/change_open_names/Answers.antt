@@ -1,6 +1,5 @@
 use Rattle.tables.proofs.Laws.{opens_none}
 use Rattle.apply.proofs.Laws.{opens_here, opens_out}
-use native.Mathlib.Omega.{arith}
 use Rattle.apply.proofs.change_open_names.Goals as goal
 
 -- src/lib.rt:40:13

@@ -2,5 +2,5 @@ use mathlib.Core.Path.{sym}
 use lib.Seq.{length-take-le}
 use Rattle.chartlist.proofs.print_refusal.Goals as goal
 
-pub slice_bounds-write_all-end : goal.slice_bounds-write_all-end
-slice_bounds-write_all-end c = sym (length-take-le _ _ c.put_refusal-n.ensures.upper_bound)
+pub slice_bounds-print-end : goal.slice_bounds-print-end
+slice_bounds-print-end c = sym (length-take-le _ _ c.put_refusal-n.ensures.upper_bound)

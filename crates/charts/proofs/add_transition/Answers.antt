@@ -1,6 +1,5 @@
 use Rattle.entries.specs.Whole.{new_transition}
 use Rattle.tables.proofs.Laws.{unless_no, unless_yes}
-use native.Mathlib.Omega.{arith}
 use Rattle.charts.proofs.add_transition.Goals as goal
 
 -- src/lib.rt:43:9

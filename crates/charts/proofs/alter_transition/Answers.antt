@@ -1,7 +1,6 @@
 use Rattle.entries.specs.Whole.{old_transition}
 use Rattle.entries.proofs.Laws.{alter_none, alter_at, alter_out}
 use mathlib.Core.Path.{refl}
-use native.Mathlib.Omega.{arith}
 use Rattle.charts.proofs.alter_transition.Goals as goal
 
 -- src/lib.rt:53:9

@@ -1,7 +1,6 @@
 use Rattle.entries.specs.Whole.{chart_row}
 use Rattle.entries.proofs.Laws.{alter_none, alter_at, alter_out}
 use mathlib.Core.Path.{refl}
-use native.Mathlib.Omega.{arith}
 use Rattle.charts.proofs.change_chart.Goals as goal
 
 -- src/lib.rt:132:9

@@ -1,7 +1,6 @@
 use Rattle.entries.specs.Whole.{state_row_by}
 use Rattle.entries.proofs.Laws.{alter_none, alter_at, alter_out}
 use mathlib.Core.Path.{refl}
-use native.Mathlib.Omega.{arith}
 use Rattle.charts.proofs.change_states.Goals as goal
 
 -- src/lib.rt:97:9

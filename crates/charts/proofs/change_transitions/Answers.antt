@@ -1,7 +1,6 @@
 use Rattle.entries.specs.Whole.{transitions_in, old_transition}
 use Rattle.definition.specs.Change.{alter_row}
 use mathlib.Core.Path.{ap, ◌∙◌}
-use native.Mathlib.Omega.{arith}
 use Rattle.charts.proofs.change_transitions.Goals as goal
 
 -- src/lib.rt:64:1

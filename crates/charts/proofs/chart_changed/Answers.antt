@@ -1,7 +1,6 @@
 use Rattle.entries.specs.Whole.{chart_row, rooted_by}
 use Rattle.plan.specs.After.{put}
 use mathlib.Core.Path.{ap, ◌∙◌}
-use native.Mathlib.Omega.{arith}
 use Rattle.charts.proofs.chart_changed.Goals as goal
 
 -- src/lib.rt:118:1

@@ -1,6 +1,5 @@
 use Rattle.plan.specs.After.{put, state_columns_after}
 use mathlib.Core.Path.{ap, ◌∙◌}
-use native.Mathlib.Omega.{arith}
 use Rattle.charts.proofs.put_columns.Goals as goal
 
 -- src/lib.rt:71:1

@@ -1,6 +1,5 @@
 use Rattle.entries.proofs.Laws.{root_no, root_yes}
 use mathlib.Core.Path.{refl}
-use native.Mathlib.Omega.{arith}
 use Rattle.charts.proofs.put_root.Goals as goal
 
 -- src/lib.rt:112:9

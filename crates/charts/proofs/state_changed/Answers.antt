@@ -1,7 +1,6 @@
 use Rattle.entries.specs.Whole.{state_row_by}
 use Rattle.plan.specs.After.{state_columns_after}
 use mathlib.Core.Path.{ap, ◌∙◌}
-use native.Mathlib.Omega.{arith}
 use Rattle.charts.proofs.state_changed.Goals as goal
 
 -- src/lib.rt:84:1

@@ -1,5 +1,4 @@
 use Rattle.entries.specs.Whole.{new_transition}
-use native.Mathlib.Omega.{arith}
 use Rattle.charts.proofs.transition_row.Goals as goal
 
 -- src/lib.rt:17:1

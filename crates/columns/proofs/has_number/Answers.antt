@@ -1,7 +1,7 @@
 use Prim.Native.Nat.{◌/◌}
 use Rattle.columns.proofs.Numbers.{step_le}
 use native.Mathlib.Omega.{arith}
-use Rattle.columns.proofs.Numbers.{Among, among_none, among_all, among_half, among_one}
+use Rattle.columns.proofs.Numbers.{among_none, among_all, among_half, among_one}
 use Rattle.columns.proofs.has_number.Goals as goal
 
 pub returns-then-rows-eq0 : goal.returns-then-rows-eq0

@@ -1,10 +1,7 @@
 use mathlib.Core.Bool.{not}
-use lib.ListN.{length}
 use native.Mathlib.Omega.{arith}
-use Prim.Native.Nat.{◌+◌, ◌*◌, ◌≤◌}
-use mathlib.Core.Path.{ap, ◌≡◌, refl, ◌∙◌}
+use mathlib.Core.Path.{ap, refl, ◌∙◌}
 use borrow.Author.Tests.{not-true, not-false}
-use Rattle.columns.specs.Sees.{texts_inside}
 use Rattle.columns.proofs.Columns.{texts_more, texts_stop, texts_end}
 use Rattle.columns.proofs.texts.Goals as goal
 

@@ -1,10 +1,7 @@
 use lib.ListN.{length}
-use native.Mathlib.Omega.{arith}
 use Prim.Native.Nat.{◌+◌, ◌*◌, ◌≤◌}
-use mathlib.Core.Path.{◌≡◌, refl, ◌∙◌}
-use borrow.Author.Tests.{not-true, not-false}
+use mathlib.Core.Path.{◌≡◌}
 use Rattle.columns.specs.Sees.{texts_inside}
-use Rattle.columns.proofs.Columns.{texts_more, texts_stop, texts_end}
 use Rattle.columns.proofs.texts.Given as goal
 
 abbrev pub invariant-loop-left : goal.invariant-loop-left

@@ -1,8 +1,5 @@
-use Prim.Native.Nat.{◌+◌, ◌≤◌}
-use lib.ListN.{length}
 use native.Mathlib.Omega.{arith}
-use mathlib.Core.Path.{◌≡◌, refl, ◌∙◌}
-use Rattle.columns.specs.Sees.{zeros_from}
+use mathlib.Core.Path.{refl, ◌∙◌}
 use Rattle.columns.proofs.Columns.{zeros_more, zeros_stop, zeros_end}
 use Rattle.columns.proofs.zeros.Goals as goal
 

@@ -1,9 +1,7 @@
 use Prim.Native.Nat.{◌+◌, ◌≤◌}
 use lib.ListN.{length}
-use native.Mathlib.Omega.{arith}
-use mathlib.Core.Path.{◌≡◌, refl, ◌∙◌}
+use mathlib.Core.Path.{◌≡◌}
 use Rattle.columns.specs.Sees.{zeros_from}
-use Rattle.columns.proofs.Columns.{zeros_more, zeros_stop, zeros_end}
 use Rattle.columns.proofs.zeros.Given as goal
 
 abbrev pub invariant-loop-left : goal.invariant-loop-left

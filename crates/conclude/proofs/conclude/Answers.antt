@@ -1,5 +1,4 @@
-use mathlib.Core.Path.{sym, ap, subst}
-use Rattle.definition.specs.declared.Position.{Position}
+use mathlib.Core.Path.{sym, subst}
 use Rattle.questions.specs.Lent.{tables, lent}
 use Rattle.plain.specs.Plain.{parsed_in}
 use Rattle.conclude.specs.declared.Answer.{Answer}

@@ -1,5 +1,3 @@
-use Rattle.questions.specs.Lent.{tables, lent}
-use Rattle.plain.specs.Plain.{parsed_in}
 use Rattle.conclude.proofs.feed_parsed.Goals as goal
 
 pub settle-s-requires : goal.settle-s-requires

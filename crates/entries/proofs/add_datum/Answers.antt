@@ -1,6 +1,5 @@
 use Rattle.entries.specs.Whole.{new_datum}
 use Rattle.tables.proofs.Laws.{unless_no, unless_yes}
-use native.Mathlib.Omega.{arith}
 use Rattle.entries.proofs.add_datum.Goals as goal
 
 -- src/lib.rt:207:9

@@ -1,6 +1,5 @@
 use Rattle.entries.specs.Whole.{new_entry}
 use Rattle.tables.proofs.Laws.{unless_no, unless_yes}
-use native.Mathlib.Omega.{arith}
 use Rattle.entries.proofs.add_entry.Goals as goal
 
 -- src/lib.rt:80:9

@@ -1,6 +1,5 @@
 use Rattle.entries.specs.Whole.{new_invoke}
 use Rattle.tables.proofs.Laws.{unless_no, unless_yes}
-use native.Mathlib.Omega.{arith}
 use Rattle.entries.proofs.add_invoke.Goals as goal
 
 -- src/lib.rt:158:9

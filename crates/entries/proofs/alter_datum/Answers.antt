@@ -1,7 +1,6 @@
 use Rattle.entries.specs.Whole.{old_datum}
 use Rattle.entries.proofs.Laws.{alter_none, alter_at, alter_out}
 use mathlib.Core.Path.{refl}
-use native.Mathlib.Omega.{arith}
 use Rattle.entries.proofs.alter_datum.Goals as goal
 
 -- src/lib.rt:217:9

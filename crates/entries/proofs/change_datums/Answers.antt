@@ -1,7 +1,6 @@
 use Rattle.entries.specs.Whole.{datums_in, old_datum}
 use Rattle.definition.specs.Change.{alter_row}
 use mathlib.Core.Path.{ap, ◌∙◌}
-use native.Mathlib.Omega.{arith}
 use Rattle.entries.proofs.change_datums.Goals as goal
 
 -- src/lib.rt:228:1

@@ -1,7 +1,6 @@
 use Rattle.entries.specs.Whole.{entries_in, old_entry}
 use Rattle.definition.specs.Change.{alter_row}
 use mathlib.Core.Path.{ap, ◌∙◌}
-use native.Mathlib.Omega.{arith}
 use Rattle.entries.proofs.change_entries.Goals as goal
 
 -- src/lib.rt:110:1

@@ -1,7 +1,6 @@
 use Rattle.entries.specs.Whole.{invokes_in, old_invoke}
 use Rattle.definition.specs.Change.{alter_row}
 use mathlib.Core.Path.{ap, ◌∙◌}
-use native.Mathlib.Omega.{arith}
 use Rattle.entries.proofs.change_invokes.Goals as goal
 
 -- src/lib.rt:179:1

@@ -1,6 +1,5 @@
 use Rattle.entries.specs.Whole.{new_parameter, parameters_in}
 use Rattle.tables.proofs.Laws.{unless_no, unless_yes}
-use native.Mathlib.Omega.{arith}
 use Rattle.entries.proofs.change_parameters.Goals as goal
 
 -- src/lib.rt:249:9

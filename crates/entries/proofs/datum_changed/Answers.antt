@@ -1,5 +1,4 @@
 use Rattle.entries.specs.Whole.{old_datum}
-use native.Mathlib.Omega.{arith}
 use Rattle.entries.proofs.datum_changed.Goals as goal
 
 -- src/lib.rt:195:1

@@ -1,5 +1,4 @@
 use Rattle.entries.specs.Whole.{new_datum}
-use native.Mathlib.Omega.{arith}
 use Rattle.entries.proofs.datum_row.Goals as goal
 
 -- src/lib.rt:186:1

@@ -1,6 +1,5 @@
 use Rattle.entries.specs.Whole.{old_entry, recorded_by}
 use mathlib.Core.Path.{ap, ◌∙◌}
-use native.Mathlib.Omega.{arith}
 use Rattle.entries.proofs.entry_changed.Goals as goal
 
 -- src/lib.rt:86:1

@@ -1,5 +1,4 @@
 use Rattle.entries.specs.Whole.{new_entry}
-use native.Mathlib.Omega.{arith}
 use Rattle.entries.proofs.entry_row.Goals as goal
 
 -- src/lib.rt:64:1

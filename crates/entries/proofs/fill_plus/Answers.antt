@@ -1,6 +1,5 @@
 use Rattle.entries.proofs.Laws.{shape_no, shape_yes}
 use mathlib.Core.Path.{refl}
-use native.Mathlib.Omega.{arith}
 use Rattle.entries.proofs.fill_plus.Goals as goal
 
 -- src/lib.rt:39:9

@@ -1,5 +1,4 @@
 use Rattle.entries.proofs.Laws.{record_no, record_yes}
-use native.Mathlib.Omega.{arith}
 use Rattle.entries.proofs.fill_record.Goals as goal
 
 -- src/lib.rt:49:9

@@ -1,6 +1,5 @@
 use Rattle.entries.specs.Whole.{old_invoke, recorded_by}
 use mathlib.Core.Path.{ap, ◌∙◌}
-use native.Mathlib.Omega.{arith}
 use Rattle.entries.proofs.invoke_changed.Goals as goal
 
 -- src/lib.rt:145:1

@@ -1,5 +1,4 @@
 use Rattle.entries.specs.Whole.{new_invoke}
-use native.Mathlib.Omega.{arith}
 use Rattle.entries.proofs.invoke_row.Goals as goal
 
 -- src/lib.rt:135:1

@@ -1,5 +1,4 @@
 use Rattle.entries.specs.Whole.{new_parameter}
-use native.Mathlib.Omega.{arith}
 use Rattle.entries.proofs.parameter_row.Goals as goal
 
 -- src/lib.rt:235:1

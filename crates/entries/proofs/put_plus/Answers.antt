@@ -1,6 +1,5 @@
 use Rattle.entries.proofs.Laws.{plus_no, plus_yes}
 use mathlib.Core.Path.{refl}
-use native.Mathlib.Omega.{arith}
 use Rattle.entries.proofs.put_plus.Goals as goal
 
 -- src/lib.rt:29:9

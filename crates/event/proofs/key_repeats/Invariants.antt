@@ -1,10 +1,9 @@
 use lib.ListN.{get_or, take, drop}
 use Prim.Native.Nat.{◌<◌, ◌+◌, ◌-◌}
-use mathlib.Core.Path.{◌≡◌, refl, ◌∙◌}
-use native.Mathlib.Omega.{arith}
+use mathlib.Core.Path.{◌≡◌}
 use Rattle.parts.specs.Parts.{no_pair, pairs_of}
 use Rattle.event.specs.Described.{Coded, read, is_among}
-use Rattle.event.proofs.KeyLaws.{rows_fit, compared, keys_from, coded_here, coded_rest, among_more, among_stop, among_none}
+use Rattle.event.proofs.KeyLaws.{keys_from}
 use Rattle.event.proofs.key_repeats.Given as goal
 
 abbrev pub invariant-loop-j : goal.invariant-loop-j

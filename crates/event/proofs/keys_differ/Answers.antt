@@ -1,11 +1,8 @@
-use lib.ListN.{take, drop}
-use Prim.Native.Nat.{◌-◌, ◌≤◌}
-use mathlib.Core.Path.{◌≡◌, refl, sym, ◌∙◌}
+use mathlib.Core.Path.{refl, sym, ◌∙◌}
 use native.Mathlib.Omega.{arith}
 use borrow.Author.Rules.{rules}
 use Rattle.parts.specs.Parts.{pairs_of}
-use Rattle.event.specs.Described.{Coded, pair_keys, all_differ}
-use Rattle.event.proofs.KeyLaws.{rows_fit, keys_from, coded_rest, differ_more, differ_stop, differ_last}
+use Rattle.event.proofs.KeyLaws.{rows_fit, coded_rest, differ_more, differ_stop, differ_last}
 use Rattle.event.proofs.keys_differ.Goals as goal
 
 pub loop-i-init : goal.loop-i-init

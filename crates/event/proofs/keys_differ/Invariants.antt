@@ -1,10 +1,9 @@
 use lib.ListN.{take, drop}
 use Prim.Native.Nat.{◌-◌, ◌≤◌}
-use mathlib.Core.Path.{◌≡◌, refl, sym, ◌∙◌}
-use native.Mathlib.Omega.{arith}
+use mathlib.Core.Path.{◌≡◌}
 use Rattle.parts.specs.Parts.{pairs_of}
 use Rattle.event.specs.Described.{Coded, pair_keys, all_differ}
-use Rattle.event.proofs.KeyLaws.{rows_fit, keys_from, coded_rest, differ_more, differ_stop, differ_last}
+use Rattle.event.proofs.KeyLaws.{keys_from}
 use Rattle.event.proofs.keys_differ.Given as goal
 
 abbrev pub invariant-loop-i : goal.invariant-loop-i

@@ -1,7 +1,6 @@
 use Rattle.event.specs.Described.{shape_fits}
 use Rattle.event.proofs.DescribeLaws.{shape_at, shape_none}
 use mathlib.Core.Path.{refl}
-use Prim.Native.Nat.{◌-◌}
 use Rattle.event.proofs.shape_fits.Goals as goal
 
 pub returns-then-kind-eq0 : goal.returns-then-kind-eq0

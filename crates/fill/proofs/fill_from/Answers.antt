@@ -1,9 +1,9 @@
 use Rattle.fill.proofs.Laws.{from_end, from_more, from_out, one_done, one_length}
 use Rattle.fill.specs.Fill.{fill_from}
 use lib.ListN.{length, get_or, drop}
-use mathlib.Core.List.{List, []}
-use mathlib.Core.Path.{◌≡◌, refl, sym, ap, ◌∙◌}
-use Prim.Native.Nat.{ℕ, ◌+◌, ◌-◌}
+use mathlib.Core.List.{[]}
+use mathlib.Core.Path.{refl, sym, ap, ◌∙◌}
+use Prim.Native.Nat.{◌+◌}
 use native.Mathlib.Omega.{arith}
 use Rattle.fill.proofs.fill_from.Goals as goal
 

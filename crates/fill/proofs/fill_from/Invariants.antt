@@ -1,10 +1,7 @@
-use Rattle.fill.proofs.Laws.{from_end, from_more, from_out, one_done, one_length}
 use Rattle.fill.specs.Fill.{fill_from}
-use lib.ListN.{length, get_or, drop}
-use mathlib.Core.List.{List, []}
-use mathlib.Core.Path.{◌≡◌, refl, sym, ap, ◌∙◌}
-use Prim.Native.Nat.{ℕ, ◌+◌, ◌-◌}
-use native.Mathlib.Omega.{arith}
+use lib.ListN.{length, drop}
+use mathlib.Core.Path.{◌≡◌}
+use Prim.Native.Nat.{◌-◌}
 use Rattle.fill.proofs.fill_from.Given as goal
 
 abbrev pub invariant-loop-i : goal.invariant-loop-i

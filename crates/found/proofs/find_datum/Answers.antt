@@ -1,7 +1,3 @@
-use Rattle.definition.specs.Look.{find_datum}
-use lib.ListN.{length, drop}
-use Prim.Native.Nat.{◌+◌, ◌-◌, ◌≤◌}
-use mathlib.Core.Path.{◌≡◌}
 use native.Mathlib.Omega.{arith}
 use Rattle.found.proofs.FoundLaws.{row_found, row_passed, rows_end}
 use borrow.Author.Rules.{rules}

@@ -1,8 +1,6 @@
 use Rattle.definition.specs.Text.{is_space}
 use native.Mathlib.Omega.{arith}
-use Prim.Native.Nat.{◌-◌}
-use lib.ListN.{length}
-use Rattle.heard.proofs.CodeLaws.{Counting, counting_start, counted_none, counted_end, counting_more, word_lies, event_count}
+use Rattle.heard.proofs.CodeLaws.{counting_start, counted_none, counted_end, counting_more, word_lies, event_count}
 use Rattle.heard.proofs.event_words.Goals as goal
 
 -- src/lib.rt:107:5

@@ -1,8 +1,7 @@
 use Rattle.definition.specs.Text.{is_separator}
-use native.Mathlib.Omega.{arith}
 use Prim.Native.Nat.{◌-◌}
 use lib.ListN.{length}
-use Rattle.heard.proofs.CodeLaws.{Counting, counting_start, counted_none, counted_end, counting_more, word_lies, state_count}
+use Rattle.heard.proofs.CodeLaws.{Counting}
 use Rattle.heard.proofs.state_words.Given as goal
 
 abbrev pub invariant-loop-at : goal.invariant-loop-at

@@ -1,8 +1,5 @@
-use mathlib.Core.Path.{◌≡◌, refl, sym, ◌∙◌}
-use native.Mathlib.Omega.{arith}
+use mathlib.Core.Path.{◌≡◌}
 use lib.ListN.{length}
-use lib.Seq.{length-take-le}
-use Rattle.input.proofs.Laws.{some_left}
 use Rattle.input.proofs.read_all.Given as goal
 
 abbrev pub invariant-loop-now : goal.invariant-loop-now

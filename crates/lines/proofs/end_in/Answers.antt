@@ -1,9 +1,6 @@
 use Rattle.lines.proofs.LineLaws.{line_more, line_stop}
-use Rattle.lines.specs.Lines.{line_length}
-use lib.ListN.{length, drop}
 use native.Mathlib.Omega.{arith}
-use mathlib.Core.Path.{◌≡◌, refl, ◌∙◌}
-use Prim.Native.Nat.{◌+◌, ◌-◌, ◌<◌}
+use mathlib.Core.Path.{refl, ◌∙◌}
 use Rattle.lines.proofs.end_in.Goals as goal
 
 pub loop-i-init : goal.loop-i-init

@@ -1,8 +1,6 @@
-use Rattle.lines.proofs.LineLaws.{line_more, line_stop}
 use Rattle.lines.specs.Lines.{line_length}
 use lib.ListN.{length, drop}
-use native.Mathlib.Omega.{arith}
-use mathlib.Core.Path.{◌≡◌, refl, ◌∙◌}
+use mathlib.Core.Path.{◌≡◌}
 use Prim.Native.Nat.{◌+◌, ◌-◌, ◌<◌}
 use Rattle.lines.proofs.end_in.Given as goal
 

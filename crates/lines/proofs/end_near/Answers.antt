@@ -1,8 +1,5 @@
 use Rattle.lines.proofs.LineLaws.{line_more, line_stop, line_end}
-use Rattle.lines.specs.Lines.{line_length}
-use lib.ListN.{length, drop}
-use mathlib.Core.Path.{◌≡◌, refl, ◌∙◌}
-use Prim.Native.Nat.{◌+◌, ◌-◌}
+use mathlib.Core.Path.{refl, ◌∙◌}
 use Rattle.lines.proofs.end_near.Goals as goal
 
 pub loop-i-init : goal.loop-i-init

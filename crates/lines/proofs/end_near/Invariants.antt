@@ -1,7 +1,6 @@
-use Rattle.lines.proofs.LineLaws.{line_more, line_stop, line_end}
 use Rattle.lines.specs.Lines.{line_length}
 use lib.ListN.{length, drop}
-use mathlib.Core.Path.{◌≡◌, refl, ◌∙◌}
+use mathlib.Core.Path.{◌≡◌}
 use Prim.Native.Nat.{◌+◌, ◌-◌}
 use Rattle.lines.proofs.end_near.Given as goal
 

@@ -1,10 +1,8 @@
 use Rattle.lines.proofs.BlockLaws.{all_none, all_more, all_done}
-use Rattle.lines.specs.Blocks.{all, is_plain}
-use Rattle.lines.specs.Parts.{part}
+use Rattle.lines.specs.Blocks.{is_plain}
 use native.Mathlib.Omega.{arith}
-use mathlib.Core.Path.{◌≡◌, ap, ◌∙◌}
+use mathlib.Core.Path.{ap, ◌∙◌}
 use mathlib.Core.Bool.{Bool, ◌&&◌}
-use Prim.Native.Nat.{◌-◌, ◌≤◌}
 use Rattle.lines.proofs.is_block_plain.Goals as goal
 
 pub loop-j-init : goal.loop-j-init

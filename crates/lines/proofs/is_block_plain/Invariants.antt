@@ -1,9 +1,6 @@
-use Rattle.lines.proofs.BlockLaws.{all_none, all_more, all_done}
 use Rattle.lines.specs.Blocks.{all, is_plain}
 use Rattle.lines.specs.Parts.{part}
-use native.Mathlib.Omega.{arith}
-use mathlib.Core.Path.{◌≡◌, ap, ◌∙◌}
-use mathlib.Core.Bool.{Bool, ◌&&◌}
+use mathlib.Core.Path.{◌≡◌}
 use Prim.Native.Nat.{◌-◌, ◌≤◌}
 use Rattle.lines.proofs.is_block_plain.Given as goal
 

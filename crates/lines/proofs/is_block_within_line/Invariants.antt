@@ -1,7 +1,5 @@
-use Rattle.lines.proofs.BlockLaws.{all_none, all_more, all_done}
 use Rattle.lines.specs.Blocks.{all, is_within_line}
 use Rattle.lines.specs.Parts.{part}
-use native.Mathlib.Omega.{arith}
 use mathlib.Core.Path.{◌≡◌}
 use Prim.Native.Nat.{◌-◌, ◌≤◌}
 use Rattle.lines.proofs.is_block_within_line.Given as goal

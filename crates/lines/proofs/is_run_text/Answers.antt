@@ -1,12 +1,11 @@
 use Rattle.lines.proofs.BlockLaws.{all_none, all_more, all_done}
-use Rattle.lines.specs.Blocks.{all, is_text, is_within_line}
-use Rattle.lines.specs.Parts.{part}
+use Rattle.lines.specs.Blocks.{is_text, is_within_line}
 use native.Mathlib.Omega.{arith}
-use mathlib.Core.Path.{◌≡◌, ap, ◌∙◌}
+use mathlib.Core.Path.{ap, ◌∙◌}
 use mathlib.Core.Bool.{Bool, ◌&&◌, not}
 use lib.Dec.{eqb}
 use lib.ListN.{get_or}
-use Prim.Native.Nat.{◌+◌, ◌-◌, ◌≤◌}
+use Prim.Native.Nat.{◌+◌}
 use Rattle.lines.proofs.is_run_text.Goals as goal
 
 pub loop-j-init : goal.loop-j-init

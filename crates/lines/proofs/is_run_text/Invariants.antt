@@ -1,12 +1,7 @@
-use Rattle.lines.proofs.BlockLaws.{all_none, all_more, all_done}
-use Rattle.lines.specs.Blocks.{all, is_text, is_within_line}
+use Rattle.lines.specs.Blocks.{all, is_text}
 use Rattle.lines.specs.Parts.{part}
-use native.Mathlib.Omega.{arith}
-use mathlib.Core.Path.{◌≡◌, ap, ◌∙◌}
-use mathlib.Core.Bool.{Bool, ◌&&◌, not}
-use lib.Dec.{eqb}
-use lib.ListN.{get_or}
-use Prim.Native.Nat.{◌+◌, ◌-◌, ◌≤◌}
+use mathlib.Core.Path.{◌≡◌}
+use Prim.Native.Nat.{◌-◌, ◌≤◌}
 use Rattle.lines.proofs.is_run_text.Given as goal
 
 abbrev pub invariant-loop-j : goal.invariant-loop-j

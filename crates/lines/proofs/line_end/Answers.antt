@@ -1,12 +1,9 @@
 use mathlib.Core.Bool.{not}
 use Rattle.lines.proofs.LineLaws.{line_end}
 use Rattle.lines.proofs.BlockLaws.{line_past, ends_in_lem}
-use Rattle.lines.specs.Lines.{line_length}
-use lib.ListN.{length, drop}
 use borrow.Author.Tests.{not-true, not-false}
 use native.Mathlib.Omega.{arith}
-use mathlib.Core.Path.{ap, ◌≡◌, refl, sym, ◌∙◌}
-use Prim.Native.Nat.{◌+◌, ◌-◌, ◌≤◌}
+use mathlib.Core.Path.{ap, refl, sym, ◌∙◌}
 use borrow.Author.Rules.{rules}
 use Rattle.lines.proofs.line_end.Goals as goal
 

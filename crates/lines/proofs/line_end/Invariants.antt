@@ -1,10 +1,6 @@
-use Rattle.lines.proofs.LineLaws.{line_end}
-use Rattle.lines.proofs.BlockLaws.{line_past, ends_in_lem}
 use Rattle.lines.specs.Lines.{line_length}
 use lib.ListN.{length, drop}
-use borrow.Author.Tests.{not-true, not-false}
-use native.Mathlib.Omega.{arith}
-use mathlib.Core.Path.{◌≡◌, refl, sym, ◌∙◌}
+use mathlib.Core.Path.{◌≡◌}
 use Prim.Native.Nat.{◌+◌, ◌-◌, ◌≤◌}
 use Rattle.lines.proofs.line_end.Given as goal
 

@@ -1,9 +1,6 @@
 use Rattle.definition.specs.Text.{str}
 use Rattle.lines.proofs.LineLaws.{line_ended_at, event_line, event_stop, event_more, event_none}
-use Rattle.lines.specs.Lines.{line_length, event_length}
-use lib.ListN.{length, drop}
-use mathlib.Core.Path.{◌≡◌, ◌∙◌}
-use Prim.Native.Nat.{◌+◌, ◌-◌}
+use mathlib.Core.Path.{◌∙◌}
 use Rattle.lines.proofs.next_event.Goals as goal
 
 pub loop-i-init : goal.loop-i-init

@@ -1,5 +1,4 @@
 use Rattle.lines.proofs.ReadLaws.{part_none, part_rest, part_mid}
-use Prim.Native.Nat.{◌-◌}
 use Rattle.lines.proofs.part_of.Goals as goal
 
 pub returns-then-raw-at : goal.returns-then-raw-at

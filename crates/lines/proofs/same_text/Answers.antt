@@ -1,10 +1,9 @@
 use Rattle.lines.proofs.EscapeLaws.{width_fits}
 use Rattle.definition.proofs.Base.{same_length}
-use Rattle.lines.proofs.ReadLaws.{Texts, more_left, text_length, texts_start, texts_stop, texts_more, texts_end}
+use Rattle.lines.proofs.ReadLaws.{more_left, text_length, texts_start, texts_stop, texts_more, texts_end}
 use borrow.Author.Rules.{rules}
 use native.Mathlib.Omega.{arith}
 use mathlib.Core.Path.{sym, ◌∙◌}
-use Prim.Native.Nat.{◌≤◌, ◌-◌}
 use Rattle.lines.proofs.same_text.Goals as goal
 
 pub returns-then-len-g : goal.returns-then-len-g

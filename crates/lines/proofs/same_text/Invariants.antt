@@ -1,8 +1,4 @@
-use Rattle.lines.proofs.EscapeLaws.{width_fits}
-use Rattle.definition.proofs.Base.{same_length}
-use Rattle.lines.proofs.ReadLaws.{Texts, more_left, text_length, texts_start, texts_stop, texts_more, texts_end}
-use native.Mathlib.Omega.{arith}
-use mathlib.Core.Path.{sym, ◌∙◌}
+use Rattle.lines.proofs.ReadLaws.{Texts}
 use Prim.Native.Nat.{◌≤◌, ◌-◌}
 use Rattle.lines.proofs.same_text.Given as goal
 

@@ -1,11 +1,7 @@
 use Rattle.lines.proofs.EscapeLaws.{scan_stop, scan_more, scan_end, width_fits}
-use Rattle.lines.specs.Escapes.{counted, scanned}
-use Rattle.definition.specs.Event.{legible}
-use lib.ListN.{length, drop}
 use borrow.Author.Rules.{rules}
 use native.Mathlib.Omega.{arith}
-use mathlib.Core.Path.{◌≡◌, ◌∙◌}
-use Prim.Native.Nat.{◌≤◌, ◌-◌}
+use mathlib.Core.Path.{◌∙◌}
 use Rattle.lines.proofs.scan_line.Goals as goal
 
 pub loop-i-init : goal.loop-i-init

@@ -1,9 +1,7 @@
-use Rattle.lines.proofs.EscapeLaws.{scan_stop, scan_more, scan_end, width_fits}
 use Rattle.lines.specs.Escapes.{counted, scanned}
 use Rattle.definition.specs.Event.{legible}
 use lib.ListN.{length, drop}
-use native.Mathlib.Omega.{arith}
-use mathlib.Core.Path.{◌≡◌, ◌∙◌}
+use mathlib.Core.Path.{◌≡◌}
 use Prim.Native.Nat.{◌≤◌, ◌-◌}
 use Rattle.lines.proofs.scan_line.Given as goal
 

@@ -1,12 +1,9 @@
-use Rattle.lines.proofs.BlockLaws.{line_past, all_on, text_within, text_plain}
 use Rattle.lines.specs.Lines.{line_length}
-use Rattle.lines.specs.Blocks.{all, is_plain, is_text}
+use Rattle.lines.specs.Blocks.{all, is_plain}
 use Rattle.lines.specs.Parts.{part}
 use lib.ListN.{length, drop}
-use native.Mathlib.Omega.{arith}
 use mathlib.Core.Bool.{true}
-use mathlib.Core.Path.{◌≡◌, refl, sym, ◌∙◌}
-use borrow.Author.Tests.{not-false}
+use mathlib.Core.Path.{◌≡◌}
 use Prim.Native.Nat.{◌+◌, ◌-◌, ◌≤◌}
 use Rattle.lines.proofs.skip_long.Given as goal
 

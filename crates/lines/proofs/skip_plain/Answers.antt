@@ -1,10 +1,7 @@
 use mathlib.Core.Bool.{not}
 use Rattle.lines.proofs.BlockLaws.{scan_past}
-use Rattle.lines.specs.Escapes.{counted, scanned}
-use Rattle.definition.specs.Event.{legible}
-use lib.ListN.{length, drop}
-use Prim.Native.Nat.{◌≤◌, ◌-◌}
-use mathlib.Core.Path.{ap, ◌≡◌, refl, sym, ◌∙◌}
+use Rattle.lines.specs.Escapes.{scanned}
+use mathlib.Core.Path.{ap, refl, sym, ◌∙◌}
 use native.Mathlib.Omega.{arith}
 use borrow.Author.Tests.{not-false}
 use borrow.Author.Rules.{rules}

@@ -1,11 +1,8 @@
-use Rattle.lines.proofs.BlockLaws.{scan_past}
 use Rattle.lines.specs.Escapes.{counted, scanned}
 use Rattle.definition.specs.Event.{legible}
 use lib.ListN.{length, drop}
 use Prim.Native.Nat.{◌≤◌, ◌-◌}
-use mathlib.Core.Path.{◌≡◌, refl, sym, ◌∙◌}
-use native.Mathlib.Omega.{arith}
-use borrow.Author.Tests.{not-false}
+use mathlib.Core.Path.{◌≡◌}
 use Rattle.lines.proofs.skip_plain.Given as goal
 
 abbrev pub invariant-loop-i : goal.invariant-loop-i

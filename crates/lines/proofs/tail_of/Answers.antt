@@ -1,14 +1,12 @@
 use Rattle.lines.proofs.LineLaws.{line_end}
 use Rattle.lines.proofs.BlockLaws.{line_past, ends_in_lem, all_on, all_up, tail_unknown, tail_plain}
-use Rattle.lines.specs.Lines.{line_length}
 use Rattle.lines.specs.Blocks.{all, is_plain}
 use Rattle.lines.specs.Parts.{part}
-use lib.ListN.{length, drop}
 use borrow.Author.Tests.{not-true, not-false}
 use native.Mathlib.Omega.{arith}
-use mathlib.Core.Bool.{not, true}
+use mathlib.Core.Bool.{not}
 use mathlib.Core.Path.{ap, ◌≡◌, refl, sym, ◌∙◌}
-use Prim.Native.Nat.{◌+◌, ◌-◌, ◌≤◌}
+use Prim.Native.Nat.{◌-◌}
 use Rattle.lines.proofs.tail_of.Goals as goal
 
 pub returns-then-raw-from : goal.returns-then-raw-from

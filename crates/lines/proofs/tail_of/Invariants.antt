@@ -1,13 +1,9 @@
-use Rattle.lines.proofs.LineLaws.{line_end}
-use Rattle.lines.proofs.BlockLaws.{line_past, ends_in_lem, all_on, all_up, tail_unknown, tail_plain}
 use Rattle.lines.specs.Lines.{line_length}
 use Rattle.lines.specs.Blocks.{all, is_plain}
 use Rattle.lines.specs.Parts.{part}
 use lib.ListN.{length, drop}
-use borrow.Author.Tests.{not-true, not-false}
-use native.Mathlib.Omega.{arith}
 use mathlib.Core.Bool.{true}
-use mathlib.Core.Path.{◌≡◌, refl, sym, ◌∙◌}
+use mathlib.Core.Path.{◌≡◌}
 use Prim.Native.Nat.{◌+◌, ◌-◌, ◌≤◌}
 use Rattle.lines.proofs.tail_of.Given as goal
 

@@ -1,10 +1,8 @@
 use mathlib.Core.Bool.{not}
 use mathlib.Core.Path.{ap}
-use Rattle.lines.proofs.EscapeLaws.{Unescaping, un_start, un_illegible, un_long, un_room, un_width, un_more, un_end, width_fits}
+use Rattle.lines.proofs.EscapeLaws.{un_start, un_illegible, un_long, un_room, un_width, un_more, un_end, width_fits}
 use borrow.Author.Tests.{not-true, not-false}
-use lib.ListN.{length}
 use native.Mathlib.Omega.{arith}
-use Prim.Native.Nat.{◌≤◌, ◌-◌}
 use Rattle.lines.proofs.unescape.Goals as goal
 
 pub returns-then-not-ok : goal.returns-then-not-ok

@@ -1,7 +1,5 @@
-use Rattle.lines.proofs.EscapeLaws.{Unescaping, un_start, un_illegible, un_long, un_room, un_width, un_more, un_end, width_fits}
-use borrow.Author.Tests.{not-true, not-false}
+use Rattle.lines.proofs.EscapeLaws.{Unescaping}
 use lib.ListN.{length}
-use native.Mathlib.Omega.{arith}
 use Prim.Native.Nat.{◌≤◌, ◌-◌}
 use Rattle.lines.proofs.unescape.Given as goal
 

@@ -1,10 +1,6 @@
 use Rattle.printing.proofs.Laws.{begun, goes_on, ended}
-use Rattle.printing.specs.Added.{Begun}
-use Prim.Native.Nat.{◌≤◌, ◌-◌, suc}
-use mathlib.Core.Path.{◌≡◌, refl, ◌∙◌}
+use mathlib.Core.Path.{refl, ◌∙◌}
 use borrow.Author.Rules.{rules}
-use lib.ListN.{length, drop}
-use Rattle.listing.specs.Listing.{states_from}
 use Rattle.listing.proofs.Laws.{states_more, states_end}
 use Rattle.listing.proofs.put_states.Goals as goal
 

@@ -1,10 +1,6 @@
 use Rattle.printing.proofs.Laws.{begun, goes_on, ended}
-use Rattle.printing.specs.Added.{Begun}
-use Prim.Native.Nat.{◌≤◌, ◌-◌}
-use mathlib.Core.Path.{◌≡◌, refl, ◌∙◌}
+use mathlib.Core.Path.{refl, ◌∙◌}
 use borrow.Author.Rules.{rules}
-use lib.ListN.{length, drop}
-use Rattle.listing.specs.Listing.{transitions_from}
 use Rattle.listing.proofs.Laws.{transitions_more, transitions_end}
 use Rattle.listing.proofs.put_transitions.Goals as goal
 

@@ -1,9 +1,7 @@
-use Rattle.names.proofs.Laws.{Counting, counting_start, counted_all, counting_more, new_by, word_lies, words_none, words_end}
+use Rattle.names.proofs.Laws.{counting_start, counted_all, counting_more, new_by, word_lies, words_none, words_end}
 use Rattle.definition.specs.Look.{name_cells}
-use lib.ListN.{length}
 use native.Mathlib.Omega.{arith}
-use mathlib.Core.Path.{◌≡◌, refl}
-use Prim.Native.Nat.{◌-◌}
+use mathlib.Core.Path.{refl}
 use Rattle.names.proofs.count_names.Goals as goal
 
 pub loop-at-init : goal.loop-at-init

@@ -1,8 +1,7 @@
-use Rattle.names.proofs.Laws.{Counting, counting_start, counted_all, counting_more, new_by, word_lies, words_none, words_end}
+use Rattle.names.proofs.Laws.{Counting}
 use Rattle.definition.specs.Look.{name_cells}
 use lib.ListN.{length}
-use native.Mathlib.Omega.{arith}
-use mathlib.Core.Path.{◌≡◌, refl}
+use mathlib.Core.Path.{◌≡◌}
 use Prim.Native.Nat.{◌-◌}
 use Rattle.names.proofs.count_names.Given as goal
 

@@ -1,7 +1,6 @@
-use Rattle.names.proofs.ApartLaws.{Without, found_apart, none_apart, without_start, without_more}
-use Rattle.names.proofs.LikeLaws.{Ending, ending}
+use Rattle.names.proofs.ApartLaws.{found_apart, none_apart, without_start, without_more}
+use Rattle.names.proofs.LikeLaws.{ending}
 use mathlib.Core.Path.{sym, ◌∙◌}
-use Prim.Native.Nat.{◌≤◌}
 use native.Mathlib.Omega.{arith}
 use Rattle.names.proofs.find_last.Goals as goal
 

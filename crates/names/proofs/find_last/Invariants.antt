@@ -1,8 +1,6 @@
-use Rattle.names.proofs.ApartLaws.{Without, found_apart, none_apart, without_start, without_more}
-use Rattle.names.proofs.LikeLaws.{Ending, ending}
-use mathlib.Core.Path.{sym, ◌∙◌}
+use Rattle.names.proofs.ApartLaws.{Without}
+use Rattle.names.proofs.LikeLaws.{Ending}
 use Prim.Native.Nat.{◌≤◌}
-use native.Mathlib.Omega.{arith}
 use Rattle.names.proofs.find_last.Given as goal
 
 abbrev pub invariant-loop-k : goal.invariant-loop-k

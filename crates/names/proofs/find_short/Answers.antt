@@ -1,8 +1,5 @@
 use Rattle.names.proofs.Laws.{row_found, row_passed, rows_end}
-use Rattle.definition.specs.Look.{find_name, name_cells}
-use lib.ListN.{take, drop}
-use mathlib.Core.Path.{◌≡◌, sym, ◌∙◌}
-use Prim.Native.Nat.{◌+◌, ◌-◌, ◌≤◌}
+use mathlib.Core.Path.{sym, ◌∙◌}
 use native.Mathlib.Omega.{arith}
 use borrow.Author.Rules.{rules}
 use Rattle.names.proofs.find_short.Goals as goal

@@ -1,9 +1,7 @@
-use Rattle.names.proofs.Laws.{row_found, row_passed, rows_end}
 use Rattle.definition.specs.Look.{find_name, name_cells}
 use lib.ListN.{take, drop}
-use mathlib.Core.Path.{◌≡◌, sym, ◌∙◌}
+use mathlib.Core.Path.{◌≡◌}
 use Prim.Native.Nat.{◌+◌, ◌-◌, ◌≤◌}
-use native.Mathlib.Omega.{arith}
 use Rattle.names.proofs.find_short.Given as goal
 
 abbrev pub invariant-loop-i : goal.invariant-loop-i

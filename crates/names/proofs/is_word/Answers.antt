@@ -1,8 +1,6 @@
 use Rattle.names.proofs.Laws.{word_lies, words_none, words_next, words_end, occurs_here, occurs_later, occurs_none}
-use Rattle.names.specs.Names.{words_from, occurs}
-use lib.ListN.{length}
-use mathlib.Core.Path.{◌≡◌, refl, sym, ap, ◌∙◌}
-use Prim.Native.Nat.{◌-◌}
+use Rattle.names.specs.Names.{occurs}
+use mathlib.Core.Path.{refl, sym, ap, ◌∙◌}
 use native.Mathlib.Omega.{arith}
 use Rattle.names.proofs.is_word.Goals as goal
 

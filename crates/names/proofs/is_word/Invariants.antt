@@ -1,9 +1,7 @@
-use Rattle.names.proofs.Laws.{word_lies, words_none, words_next, words_end, occurs_here, occurs_later, occurs_none}
 use Rattle.names.specs.Names.{words_from, occurs}
 use lib.ListN.{length}
-use mathlib.Core.Path.{◌≡◌, refl, sym, ap, ◌∙◌}
+use mathlib.Core.Path.{◌≡◌}
 use Prim.Native.Nat.{◌-◌}
-use native.Mathlib.Omega.{arith}
 use Rattle.names.proofs.is_word.Given as goal
 
 abbrev pub invariant-loop-at : goal.invariant-loop-at

@@ -1,7 +1,7 @@
 use Rattle.names.proofs.ApartLaws.{last_found, last_passed, last_end}
-use Rattle.names.specs.Names.{ends_so, last_like}
-use mathlib.Core.Path.{◌≡◌, refl, sym, ap, ◌∙◌}
-use Prim.Native.Nat.{ℕ, ◌-◌, ◌≤◌}
+use Rattle.names.specs.Names.{ends_so}
+use mathlib.Core.Path.{refl, sym, ap, ◌∙◌}
+use Prim.Native.Nat.{ℕ}
 use native.Mathlib.Omega.{arith}
 use borrow.Author.Rules.{rules}
 use Rattle.names.proofs.last_like.Goals as goal

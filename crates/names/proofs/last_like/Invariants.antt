@@ -1,8 +1,6 @@
-use Rattle.names.proofs.ApartLaws.{last_found, last_passed, last_end}
-use Rattle.names.specs.Names.{ends_so, last_like}
-use mathlib.Core.Path.{◌≡◌, refl, sym, ap, ◌∙◌}
-use Prim.Native.Nat.{ℕ, ◌-◌, ◌≤◌}
-use native.Mathlib.Omega.{arith}
+use Rattle.names.specs.Names.{last_like}
+use mathlib.Core.Path.{◌≡◌}
+use Prim.Native.Nat.{◌≤◌}
 use Rattle.names.proofs.last_like.Given as goal
 
 abbrev pub invariant-loop-k : goal.invariant-loop-k

@@ -1,9 +1,5 @@
-use Rattle.definition.specs.Elements.{among}
-use Rattle.nesting.specs.Tables.{listed}
 use Rattle.nesting.proofs.Laws.{row_end, row_zero, row_here, row_next}
-use Prim.Native.Nat.{◌≤◌, ◌-◌}
-use mathlib.Core.Path.{◌≡◌, refl, sym, ◌∙◌}
-use lib.ListN.{drop}
+use mathlib.Core.Path.{refl, sym, ◌∙◌}
 use native.Mathlib.Omega.{arith}
 use borrow.Author.Rules.{rules}
 use Rattle.nesting.proofs.is_listed.Goals as goal

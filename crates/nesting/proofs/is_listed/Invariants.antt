@@ -1,10 +1,8 @@
 use Rattle.definition.specs.Elements.{among}
 use Rattle.nesting.specs.Tables.{listed}
-use Rattle.nesting.proofs.Laws.{row_end, row_zero, row_here, row_next}
 use Prim.Native.Nat.{◌≤◌, ◌-◌}
-use mathlib.Core.Path.{◌≡◌, refl, sym, ◌∙◌}
+use mathlib.Core.Path.{◌≡◌}
 use lib.ListN.{drop}
-use native.Mathlib.Omega.{arith}
 use Rattle.nesting.proofs.is_listed.Given as goal
 
 abbrev pub invariant-loop-i : goal.invariant-loop-i

@@ -3,7 +3,7 @@ use lib.ListN.{get_or}
 use Rattle.definition.specs.Elements.{among}
 use Rattle.nesting.specs.Tables.{parent_rows, listed}
 use Rattle.nesting.proofs.Laws.{free_below, free_above, row_listed, in_table}
-use Prim.Native.Nat.{ℕ, ◌-◌}
+use Prim.Native.Nat.{ℕ}
 use mathlib.Core.Path.{ap, ◌∙◌}
 use Rattle.nesting.proofs.parent_allowed.Goals as goal
 

@@ -1,6 +1,5 @@
 use Rattle.definition.specs.Nesting.{nesting}
 use Rattle.nesting.specs.Tables.{parents_of, parent_row, parent_rows}
-use Prim.Native.Nat.{◌-◌}
 use mathlib.Core.Path.{refl}
 use Rattle.nesting.proofs.parents_at.Goals as goal
 

@@ -1,6 +1,4 @@
 use Rattle.definition.specs.Rules.{blocks_in}
-use Rattle.order.proofs.Laws.{blocks_yes, blocks_no, blocks_end}
-use native.Mathlib.Omega.{arith}
 use mathlib.Core.Path.{◌≡◌}
 use Prim.Native.Nat.{◌-◌, ◌+◌, ◌≤◌}
 use lib.ListN.{length, drop}

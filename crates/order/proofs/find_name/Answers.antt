@@ -1,8 +1,5 @@
 use native.Mathlib.Omega.{arith}
-use lib.ListN.{length, drop}
-use Prim.Native.Nat.{◌-◌, ◌+◌, ◌≤◌}
-use mathlib.Core.Path.{◌≡◌, sym, ◌∙◌}
-use Rattle.definition.specs.Look.{find_name, name_cells}
+use mathlib.Core.Path.{sym, ◌∙◌}
 use Rattle.order.proofs.Laws.{find_here, find_more, find_end}
 use borrow.Author.Rules.{rules}
 use Rattle.order.proofs.find_name.Goals as goal

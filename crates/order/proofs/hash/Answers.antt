@@ -1,7 +1,4 @@
-use lib.ListN.{length, drop}
-use Prim.Native.Nat.{◌-◌, ◌≤◌}
-use mathlib.Core.Path.{◌≡◌, refl, ◌∙◌}
-use Rattle.order.specs.Hash.{hash_from, hash_of}
+use mathlib.Core.Path.{refl, ◌∙◌}
 use Rattle.order.proofs.Laws.{hash_more, hash_end}
 use borrow.Author.Rules.{rules}
 use Rattle.order.proofs.hash.Goals as goal

@@ -1,8 +1,7 @@
 use lib.ListN.{length, drop}
 use Prim.Native.Nat.{◌-◌, ◌≤◌}
-use mathlib.Core.Path.{◌≡◌, refl, ◌∙◌}
+use mathlib.Core.Path.{◌≡◌}
 use Rattle.order.specs.Hash.{hash_from, hash_of}
-use Rattle.order.proofs.Laws.{hash_more, hash_end}
 use Rattle.order.proofs.hash.Given as goal
 
 abbrev pub invariant-loop-i : goal.invariant-loop-i

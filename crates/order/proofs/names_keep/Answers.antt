@@ -1,11 +1,8 @@
 use mathlib.Core.Bool.{not}
 use borrow.Author.Tests.{not-true, not-false}
-use mathlib.Core.Path.{ap, ◌≡◌, refl, ◌∙◌}
-use Prim.Native.Nat.{◌-◌, ◌≤◌}
-use lib.ListN.{length, drop, replicate}
-use Rattle.definition.specs.Rules.{rows_keep}
-use Rattle.definition.specs.Rows.{Store, free}
-use Rattle.columns.specs.Sees.{Sees}
+use mathlib.Core.Path.{ap, refl, ◌∙◌}
+use lib.ListN.{replicate}
+use Rattle.definition.specs.Rows.{free}
 use Rattle.columns.proofs.Columns.{rows_more, rows_stop, rows_end}
 use borrow.Author.Rules.{rules}
 use Rattle.order.proofs.names_keep.Goals as goal

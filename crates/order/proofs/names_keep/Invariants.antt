@@ -1,11 +1,9 @@
-use borrow.Author.Tests.{not-true, not-false}
-use mathlib.Core.Path.{◌≡◌, refl, ◌∙◌}
+use mathlib.Core.Path.{◌≡◌}
 use Prim.Native.Nat.{◌-◌, ◌≤◌}
 use lib.ListN.{length, drop, replicate}
 use Rattle.definition.specs.Rules.{rows_keep}
 use Rattle.definition.specs.Rows.{Store, free}
 use Rattle.columns.specs.Sees.{Sees}
-use Rattle.columns.proofs.Columns.{rows_more, rows_stop, rows_end}
 use Rattle.order.proofs.names_keep.Given as goal
 
 abbrev pub invariant-loop-i : goal.invariant-loop-i

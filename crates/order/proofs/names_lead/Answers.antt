@@ -1,8 +1,6 @@
-use lib.ListN.{length}
-use Prim.Native.Nat.{◌-◌}
 use mathlib.Core.Path.{refl, sym}
 use lib.Seq.{length-take-le}
-use Rattle.order.proofs.Laws.{Leading, leading_start, leading_stop, leading_more, leading_end}
+use Rattle.order.proofs.Laws.{leading_start, leading_stop, leading_more, leading_end}
 use Rattle.order.proofs.names_lead.Goals as goal
 
 pub loop-i-init : goal.loop-i-init

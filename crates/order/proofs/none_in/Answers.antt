@@ -1,6 +1,4 @@
-use lib.ListN.{length}
-use Prim.Native.Nat.{◌-◌, ◌+◌}
-use Rattle.order.proofs.Laws.{Walk, walk_start, walk_done, walk_met, walk_end, walk_beside, walk_along}
+use Rattle.order.proofs.Laws.{walk_start, walk_done, walk_met, walk_end, walk_beside, walk_along}
 use Rattle.order.proofs.none_in.Goals as goal
 
 pub loop-i-init : goal.loop-i-init

@@ -1,6 +1,6 @@
 use lib.ListN.{length}
 use Prim.Native.Nat.{◌-◌, ◌+◌}
-use Rattle.order.proofs.Laws.{Walk, walk_start, walk_done, walk_met, walk_end, walk_beside, walk_along}
+use Rattle.order.proofs.Laws.{Walk}
 use Rattle.order.proofs.none_in.Given as goal
 
 abbrev pub invariant-loop-i : goal.invariant-loop-i

@@ -1,11 +1,7 @@
 use mathlib.Core.Bool.{not}
 use native.Mathlib.Omega.{arith}
-use lib.ListN.{length, drop}
-use Prim.Native.Nat.{◌-◌, ◌≤◌}
-use mathlib.Core.Path.{ap, ◌≡◌, refl, ◌∙◌}
+use mathlib.Core.Path.{ap, refl, ◌∙◌}
 use borrow.Author.Tests.{not-true, not-false}
-use Rattle.definition.specs.Rules.{open_names_fit}
-use Rattle.definition.specs.Limits.{limits01}
 use Rattle.order.proofs.Laws.{opened_uneven, opened_stop, opened_more, opened_end}
 use borrow.Author.Rules.{rules}
 use Rattle.order.proofs.open_names_fit.Goals as goal

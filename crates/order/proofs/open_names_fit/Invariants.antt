@@ -1,11 +1,8 @@
-use native.Mathlib.Omega.{arith}
 use lib.ListN.{length, drop}
 use Prim.Native.Nat.{◌-◌, ◌≤◌}
-use mathlib.Core.Path.{◌≡◌, refl, ◌∙◌}
-use borrow.Author.Tests.{not-true, not-false}
+use mathlib.Core.Path.{◌≡◌}
 use Rattle.definition.specs.Rules.{open_names_fit}
 use Rattle.definition.specs.Limits.{limits01}
-use Rattle.order.proofs.Laws.{opened_uneven, opened_stop, opened_more, opened_end}
 use Rattle.order.proofs.open_names_fit.Given as goal
 
 abbrev pub invariant-loop-i : goal.invariant-loop-i

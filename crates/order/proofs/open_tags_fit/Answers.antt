@@ -1,10 +1,7 @@
 use mathlib.Core.Bool.{not}
-use Rattle.definition.specs.Rules.{open_tags_fit}
 use Rattle.order.proofs.Laws.{tags_more, tags_stop, tags_end}
 use borrow.Author.Tests.{not-true, not-false}
-use mathlib.Core.Path.{ap, ◌≡◌, refl, ◌∙◌}
-use Prim.Native.Nat.{◌-◌, ◌≤◌}
-use lib.ListN.{length, drop}
+use mathlib.Core.Path.{ap, refl, ◌∙◌}
 use borrow.Author.Rules.{rules}
 use Rattle.order.proofs.open_tags_fit.Goals as goal
 

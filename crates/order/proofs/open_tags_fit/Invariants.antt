@@ -1,7 +1,5 @@
 use Rattle.definition.specs.Rules.{open_tags_fit}
-use Rattle.order.proofs.Laws.{tags_more, tags_stop, tags_end}
-use borrow.Author.Tests.{not-true, not-false}
-use mathlib.Core.Path.{◌≡◌, refl, ◌∙◌}
+use mathlib.Core.Path.{◌≡◌}
 use Prim.Native.Nat.{◌-◌, ◌≤◌}
 use lib.ListN.{length, drop}
 use Rattle.order.proofs.open_tags_fit.Given as goal

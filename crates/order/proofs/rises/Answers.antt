@@ -1,8 +1,5 @@
-use Rattle.definition.specs.Rules.{rises}
 use Rattle.order.proofs.Laws.{rises_more, rises_stop, rises_end}
-use mathlib.Core.Path.{◌≡◌, refl, ◌∙◌}
-use Prim.Native.Nat.{◌-◌, ◌≤◌}
-use lib.ListN.{length, drop}
+use mathlib.Core.Path.{refl, ◌∙◌}
 use borrow.Author.Rules.{rules}
 use Rattle.order.proofs.rises.Goals as goal
 

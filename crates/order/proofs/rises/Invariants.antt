@@ -1,6 +1,5 @@
 use Rattle.definition.specs.Rules.{rises}
-use Rattle.order.proofs.Laws.{rises_more, rises_stop, rises_end}
-use mathlib.Core.Path.{◌≡◌, refl, ◌∙◌}
+use mathlib.Core.Path.{◌≡◌}
 use Prim.Native.Nat.{◌-◌, ◌≤◌}
 use lib.ListN.{length, drop}
 use Rattle.order.proofs.rises.Given as goal

@@ -1,9 +1,7 @@
 use Rattle.parts.proofs.PairLaws.{pairs_none, rows_set}
 use native.Mathlib.Omega.{arith}
-use mathlib.Core.Path.{◌≡◌, sym, ◌∙◌}
-use mathlib.Core.List.{[]}
-use Prim.Native.Nat.{ℕ, ◌-◌, ◌≤◌, ◌<◌}
-use lib.ListN.{length, get_or, replicate, length-set}
+use mathlib.Core.Path.{sym, ◌∙◌}
+use lib.ListN.{replicate, length-set}
 use Rattle.parts.proofs.clear.Goals as goal
 
 pub loop-i-init : goal.loop-i-init

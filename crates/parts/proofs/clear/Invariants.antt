@@ -1,9 +1,7 @@
-use Rattle.parts.proofs.PairLaws.{pairs_none, rows_set}
-use native.Mathlib.Omega.{arith}
-use mathlib.Core.Path.{◌≡◌, sym, ◌∙◌}
+use mathlib.Core.Path.{◌≡◌}
 use mathlib.Core.List.{[]}
 use Prim.Native.Nat.{ℕ, ◌-◌, ◌≤◌, ◌<◌}
-use lib.ListN.{length, get_or, replicate, length-set}
+use lib.ListN.{length, get_or, replicate}
 use Rattle.parts.proofs.clear.Given as goal
 
 abbrev pub invariant-loop-i : goal.invariant-loop-i

@@ -1,7 +1,6 @@
 use Rattle.definition.specs.Text.{str}
 use Rattle.parts.proofs.CodeLaws.{kind_open, kind_empty, kind_whole, kind_end, kind_none}
 use mathlib.Core.Path.{sym, ◌∙◌}
-use Prim.Native.Nat.{◌-◌}
 use Rattle.parts.proofs.kind_of.Goals as goal
 
 pub same-requires : goal.same-requires

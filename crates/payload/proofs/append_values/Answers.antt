@@ -1,6 +1,4 @@
-use Rattle.payload.proofs.Laws.{Laying, laying_start, laying_size, laying_more, laying_end, value_fits_lem}
-use lib.ListN.{length-map}
-use Prim.Native.Nat.{◌-◌}
+use Rattle.payload.proofs.Laws.{laying_start, laying_size, laying_more, laying_end, value_fits_lem}
 use native.Mathlib.Omega.{arith}
 use Rattle.payload.proofs.append_values.Goals as goal
 

@@ -1,7 +1,5 @@
-use Rattle.payload.proofs.Laws.{Laying, laying_start, laying_size, laying_more, laying_end, value_fits_lem}
-use lib.ListN.{length-map}
+use Rattle.payload.proofs.Laws.{Laying}
 use Prim.Native.Nat.{◌-◌}
-use native.Mathlib.Omega.{arith}
 use Rattle.payload.proofs.append_values.Given as goal
 
 abbrev pub invariant-loop-i : goal.invariant-loop-i

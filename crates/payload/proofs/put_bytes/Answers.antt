@@ -1,8 +1,6 @@
 use Rattle.payload.proofs.Laws.{paste_size, paste_more, paste_end}
-use lib.Seq.{paste, paste-zero}
-use lib.ListN.{length}
-use mathlib.Core.Path.{◌≡◌, ◌∙◌}
-use Prim.Native.Nat.{◌-◌, ◌≤◌}
+use lib.Seq.{paste-zero}
+use mathlib.Core.Path.{◌∙◌}
 use native.Mathlib.Omega.{arith}
 use borrow.Author.Rules.{rules}
 use Rattle.payload.proofs.put_bytes.Goals as goal

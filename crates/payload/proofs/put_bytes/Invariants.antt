@@ -1,9 +1,7 @@
-use Rattle.payload.proofs.Laws.{paste_size, paste_more, paste_end}
-use lib.Seq.{paste, paste-zero}
+use lib.Seq.{paste}
 use lib.ListN.{length}
-use mathlib.Core.Path.{◌≡◌, ◌∙◌}
+use mathlib.Core.Path.{◌≡◌}
 use Prim.Native.Nat.{◌-◌, ◌≤◌}
-use native.Mathlib.Omega.{arith}
 use Rattle.payload.proofs.put_bytes.Given as goal
 
 abbrev pub invariant-loop-i : goal.invariant-loop-i

@@ -1,6 +1,4 @@
-use mathlib.Core.Path.{◌≡◌, refl}
-use Prim.Native.Nat.{◌-◌}
-use lib.ListN.{length}
+use mathlib.Core.Path.{refl}
 use Rattle.pieces.proofs.fill.Goals as goal
 
 pub loop-input-init : goal.loop-input-init

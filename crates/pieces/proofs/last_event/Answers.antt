@@ -1,7 +1,5 @@
-use Rattle.pieces.proofs.Laws.{Walked, walk_begins, walk_less, walk_on, walk_ends}
-use Prim.Native.Nat.{◌-◌}
+use Rattle.pieces.proofs.Laws.{walk_begins, walk_less, walk_on, walk_ends}
 use native.Mathlib.Omega.{arith}
-use lib.ListN.{length}
 use Rattle.pieces.proofs.last_event.Goals as goal
 
 pub loop-next-init : goal.loop-next-init

@@ -1,6 +1,5 @@
-use Rattle.pieces.proofs.Laws.{Walked, walk_begins, walk_less, walk_on, walk_ends}
+use Rattle.pieces.proofs.Laws.{Walked}
 use Prim.Native.Nat.{◌-◌}
-use native.Mathlib.Omega.{arith}
 use lib.ListN.{length}
 use Rattle.pieces.proofs.last_event.Given as goal
 

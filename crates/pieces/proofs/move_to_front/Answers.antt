@@ -1,5 +1,5 @@
-use Rattle.pieces.proofs.Laws.{Moved, move_on}
-use Prim.Native.Nat.{◌+◌, ◌-◌, ◌≤◌}
+use Rattle.pieces.proofs.Laws.{move_on}
+use Prim.Native.Nat.{◌-◌}
 use mathlib.Core.Path.{◌≡◌, refl}
 use native.Mathlib.Omega.{arith}
 use borrow.Author.Rules.{rules}

@@ -1,7 +1,5 @@
-use Rattle.pieces.proofs.Laws.{Moved, move_on}
+use Rattle.pieces.proofs.Laws.{Moved}
 use Prim.Native.Nat.{◌+◌, ◌-◌, ◌≤◌}
-use mathlib.Core.Path.{◌≡◌, refl}
-use native.Mathlib.Omega.{arith}
 use Rattle.pieces.proofs.move_to_front.Given as goal
 
 abbrev pub invariant-loop-i : goal.invariant-loop-i

@@ -1,7 +1,6 @@
-use lib.ListN.{length-map}
 use mathlib.Core.Path.{refl}
 use native.Mathlib.Omega.{arith}
-use Rattle.plain.proofs.KeyLaws.{Indexing, indexing_start, indexing_more, indexing_end}
+use Rattle.plain.proofs.KeyLaws.{indexing_start, indexing_more, indexing_end}
 use Rattle.plain.proofs.index.Goals as goal
 
 pub loop-i-init : goal.loop-i-init

@@ -1,7 +1,4 @@
-use lib.ListN.{length-map}
-use mathlib.Core.Path.{refl}
-use native.Mathlib.Omega.{arith}
-use Rattle.plain.proofs.KeyLaws.{Indexing, indexing_start, indexing_more, indexing_end}
+use Rattle.plain.proofs.KeyLaws.{Indexing}
 use Rattle.plain.proofs.index.Given as goal
 
 abbrev pub invariant-loop-i : goal.invariant-loop-i

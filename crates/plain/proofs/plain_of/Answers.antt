@@ -1,4 +1,4 @@
-use Rattle.plain.proofs.Laws.{Filling, plainly_is, filling_start, filling_more, filled, filled_plain}
+use Rattle.plain.proofs.Laws.{plainly_is, filling_start, filling_more, filled, filled_plain}
 use Rattle.plain.specs.Plain.{all_plain, slot_of}
 use Rattle.parts.specs.Parts.{pairs_of}
 use Rattle.parts.proofs.PairLaws.{pairs_length}
@@ -6,7 +6,6 @@ use Rattle.event.specs.Described.{described_by}
 use lib.ListN.{take}
 use mathlib.Core.Bool.{Bool, ◌&&◌}
 use mathlib.Core.Path.{refl, ap₂, ◌∙◌}
-use Prim.Native.Nat.{◌-◌}
 use native.Mathlib.Omega.{arith}
 use Rattle.plain.proofs.plain_of.Goals as goal
 

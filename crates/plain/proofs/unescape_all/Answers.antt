@@ -1,11 +1,8 @@
-use Rattle.plain.proofs.CopyLaws.{Copying, name_small, text_fits_lem, text_small, copying_start, size_end, parsed_all, copy_fits, copy_small, copying_more, copied_all}
-use Rattle.plain.specs.Plain.{slot_bytes}
+use Rattle.plain.proofs.CopyLaws.{name_small, text_fits_lem, text_small, copying_start, size_end, parsed_all, copy_fits, copy_small, copying_more, copied_all}
 use Rattle.parts.specs.Parts.{pairs_of}
 use Rattle.parts.proofs.PairLaws.{pairs_length}
 use Rattle.event.specs.Described.{described_by}
-use lib.ListN.{length}
 use mathlib.Core.Path.{refl, ◌∙◌}
-use Prim.Native.Nat.{◌-◌}
 use native.Mathlib.Omega.{arith}
 use Rattle.plain.proofs.unescape_all.Goals as goal
 

@@ -1,10 +1,8 @@
 use Rattle.printing.proofs.Laws.{member_more}
-use Prim.Native.Nat.{◌≤◌, ◌-◌}
-use mathlib.Core.Path.{◌≡◌, refl, ◌∙◌}
+use mathlib.Core.Path.{refl, ◌∙◌}
 use native.Mathlib.Omega.{arith}
 use borrow.Author.Rules.{rules}
-use lib.ListN.{length, drop}
-use Rattle.definition.specs.Rows.{listed, same_list}
+use Rattle.definition.specs.Rows.{same_list}
 use Rattle.printing.proofs.next_member.Goals as goal
 
 pub loop-i-init : goal.loop-i-init

@@ -1,9 +1,7 @@
-use Rattle.printing.proofs.Laws.{member_more}
 use Prim.Native.Nat.{◌≤◌, ◌-◌}
-use mathlib.Core.Path.{◌≡◌, refl, ◌∙◌}
-use native.Mathlib.Omega.{arith}
+use mathlib.Core.Path.{◌≡◌}
 use lib.ListN.{length, drop}
-use Rattle.definition.specs.Rows.{listed, same_list}
+use Rattle.definition.specs.Rows.{listed}
 use Rattle.printing.proofs.next_member.Given as goal
 
 abbrev pub invariant-loop-i : goal.invariant-loop-i

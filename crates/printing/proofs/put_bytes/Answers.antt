@@ -1,9 +1,7 @@
 use Rattle.printing.proofs.Laws.{begun, goes_on, ended, drop_first}
-use Rattle.printing.specs.Added.{Begun}
-use Prim.Native.Nat.{◌≤◌, ◌-◌}
-use mathlib.Core.Path.{◌≡◌, refl, ◌∙◌}
+use mathlib.Core.Path.{refl, ◌∙◌}
 use borrow.Author.Rules.{rules}
-use lib.ListN.{length, drop, drop_of_length-le}
+use lib.ListN.{drop_of_length-le}
 use Rattle.printing.proofs.put_bytes.Goals as goal
 
 pub loop-i-init : goal.loop-i-init

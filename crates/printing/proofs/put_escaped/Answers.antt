@@ -1,10 +1,6 @@
 use Rattle.printing.proofs.Laws.{begun, goes_on, ended, escaped_more, escaped_end}
-use Rattle.printing.specs.Added.{Begun}
-use Rattle.printing.specs.Lines.{escaped}
-use Prim.Native.Nat.{◌≤◌, ◌-◌}
-use mathlib.Core.Path.{◌≡◌, refl, ◌∙◌}
+use mathlib.Core.Path.{refl, ◌∙◌}
 use borrow.Author.Rules.{rules}
-use lib.ListN.{length, drop}
 use Rattle.printing.proofs.put_escaped.Goals as goal
 
 pub loop-i-init : goal.loop-i-init

@@ -1,8 +1,7 @@
-use Rattle.printing.proofs.Laws.{begun, goes_on, ended, escaped_more, escaped_end}
 use Rattle.printing.specs.Added.{Begun}
 use Rattle.printing.specs.Lines.{escaped}
 use Prim.Native.Nat.{◌≤◌, ◌-◌}
-use mathlib.Core.Path.{◌≡◌, refl, ◌∙◌}
+use mathlib.Core.Path.{◌≡◌}
 use lib.ListN.{length, drop}
 use Rattle.printing.proofs.put_escaped.Given as goal
 

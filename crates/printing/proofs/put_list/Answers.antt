@@ -1,13 +1,6 @@
 use Rattle.printing.proofs.Laws.{begun_at, goes_on, ended, item, items_end, items_all}
-use Rattle.printing.specs.Added.{Begun}
-use Rattle.printing.specs.Lines.{spaced, spaced_from, numbers_of}
-use Rattle.definition.specs.Rows.{same_list}
-use Prim.Native.Nat.{◌≤◌, ◌<◌, ◌-◌}
-use mathlib.Core.Bool.{true}
-use mathlib.Core.List.{[]}
-use mathlib.Core.Path.{◌≡◌, refl, ◌∙◌}
+use mathlib.Core.Path.{refl, ◌∙◌}
 use borrow.Author.Rules.{rules}
-use lib.ListN.{length, get_or, drop}
 use Rattle.printing.proofs.put_list.Goals as goal
 
 pub loop-i-init : goal.loop-i-init

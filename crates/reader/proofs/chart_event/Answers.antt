@@ -1,4 +1,3 @@
-use mathlib.Core.Path.{refl}
 use Rattle.questions.specs.Lent.{tables, lent}
 use Rattle.streams.proofs.Laws.{gives, one_event_lem}
 use Rattle.reader.proofs.Laws.{first_no_lem, all_yes}

@@ -1,4 +1,4 @@
-use mathlib.Core.Path.{refl, sym, ◌∙◌}
+use mathlib.Core.Path.{sym, ◌∙◌}
 use Rattle.questions.specs.Lent.{tables, lent}
 use Rattle.streams.proofs.Laws.{ends, stream_none, stream_refused}
 use Rattle.reader.proofs.chart_stream.Goals as goal

@@ -1,7 +1,6 @@
 use lib.ListN.{length-set}
 use native.Mathlib.Omega.{arith}
-use Prim.Native.Nat.{◌-◌}
-use Rattle.reading.proofs.Bytes.{Written, written_none, written_more, written_all}
+use Rattle.reading.proofs.Bytes.{written_none, written_more, written_all}
 use Rattle.reading.proofs.put_row.Goals as goal
 
 pub loop-c-init : goal.loop-c-init

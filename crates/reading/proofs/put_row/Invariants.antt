@@ -1,7 +1,5 @@
-use lib.ListN.{length-set}
-use native.Mathlib.Omega.{arith}
 use Prim.Native.Nat.{◌-◌}
-use Rattle.reading.proofs.Bytes.{Written, written_none, written_more, written_all}
+use Rattle.reading.proofs.Bytes.{Written}
 use Rattle.reading.proofs.put_row.Given as goal
 
 abbrev pub invariant-loop-c : goal.invariant-loop-c

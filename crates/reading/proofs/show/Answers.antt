@@ -1,8 +1,7 @@
-use lib.ListN.{length, set}
-use Prim.Native.Nat.{◌-◌, ◌≤◌}
+use lib.ListN.{set}
 use mathlib.Core.Path.{ap}
 use Rattle.definition.specs.Rows.{Row, with_cell}
-use Rattle.reading.proofs.Laws.{Widened, wide_none, wide_more, wide_all}
+use Rattle.reading.proofs.Laws.{wide_none, wide_more, wide_all}
 use Rattle.reading.proofs.show.Goals as goal
 
 pub loop-i-init : goal.loop-i-init

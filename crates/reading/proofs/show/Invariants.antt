@@ -1,8 +1,6 @@
-use lib.ListN.{length, set}
+use lib.ListN.{length}
 use Prim.Native.Nat.{◌-◌, ◌≤◌}
-use mathlib.Core.Path.{ap}
-use Rattle.definition.specs.Rows.{Row, with_cell}
-use Rattle.reading.proofs.Laws.{Widened, wide_none, wide_more, wide_all}
+use Rattle.reading.proofs.Laws.{Widened}
 use Rattle.reading.proofs.show.Given as goal
 
 abbrev pub invariant-loop-i : goal.invariant-loop-i

@@ -1,4 +1,4 @@
-use Rattle.plan.specs.Plans.{passing, both_finalize_p}
+use Rattle.plan.specs.Plans.{both_finalize_p}
 use Rattle.decision.proofs.Laws.{needs₂}
 use Rattle.decision.specs.Told.{told}
 use Rattle.regions.proofs.both_finalize.Goals as goal

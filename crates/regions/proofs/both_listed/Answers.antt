@@ -1,4 +1,4 @@
-use Rattle.plan.specs.Plans.{passing, both_listed_p}
+use Rattle.plan.specs.Plans.{both_listed_p}
 use Rattle.decision.proofs.Laws.{needs₁}
 use Rattle.decision.specs.Told.{told}
 use Rattle.regions.proofs.both_listed.Goals as goal

@@ -1,6 +1,4 @@
-use Rattle.rows.proofs.Laws.{Passed, place_start, place_more, place_here, place_end}
-use Prim.Native.Nat.{◌-◌}
-use lib.ListN.{length}
+use Rattle.rows.proofs.Laws.{place_start, place_more, place_here, place_end}
 use Rattle.rows.proofs.place_of.Goals as goal
 
 pub loop-i-init : goal.loop-i-init

@@ -1,4 +1,4 @@
-use Rattle.rows.proofs.Laws.{Passed, place_start, place_more, place_here, place_end}
+use Rattle.rows.proofs.Laws.{Passed}
 use Prim.Native.Nat.{◌-◌}
 use lib.ListN.{length}
 use Rattle.rows.proofs.place_of.Given as goal

@@ -1,11 +1,9 @@
-use borrow.Author.Tests.{not-true, not-false}
-use mathlib.Core.Path.{◌≡◌, refl, ◌∙◌}
+use mathlib.Core.Path.{◌≡◌}
 use Prim.Native.Nat.{◌-◌, ◌≤◌}
 use lib.ListN.{length, drop}
 use Rattle.definition.specs.Rules.{rows_keep}
 use Rattle.definition.specs.Rows.{Store}
 use Rattle.columns.specs.Sees.{Sees, columns24}
-use Rattle.columns.proofs.Columns.{rows_more, rows_stop, rows_end}
 use Rattle.rules.proofs.rows_keep_24.Given as goal
 
 abbrev pub invariant-loop-i : goal.invariant-loop-i

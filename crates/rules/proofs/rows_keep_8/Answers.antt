@@ -1,11 +1,7 @@
 use mathlib.Core.Bool.{not}
 use borrow.Author.Tests.{not-true, not-false}
-use mathlib.Core.Path.{ap, ◌≡◌, refl, ◌∙◌}
-use Prim.Native.Nat.{◌-◌, ◌≤◌}
-use lib.ListN.{length, drop}
-use Rattle.definition.specs.Rules.{rows_keep}
-use Rattle.definition.specs.Rows.{Store}
-use Rattle.columns.specs.Sees.{Sees, columns8}
+use mathlib.Core.Path.{ap, refl, ◌∙◌}
+use Rattle.columns.specs.Sees.{columns8}
 use Rattle.columns.proofs.Columns.{rows_more, rows_stop, rows_end}
 use borrow.Author.Rules.{rules}
 use Rattle.rules.proofs.rows_keep_8.Goals as goal

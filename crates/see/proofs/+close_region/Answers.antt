@@ -6,7 +6,7 @@ use mathlib.Core.List.{[]}
 use lib.ListN.{get_or}
 use native.Mathlib.Omega.{arith}
 use mathlib.Core.Path.{sym, ap, ◌∙◌}
-use Prim.Native.Nat.{ℕ, ◌+◌, ◌-◌, ◌<◌}
+use Prim.Native.Nat.{ℕ}
 use Rattle.see.proofs.+close_region.Goals as goal
 
 pub returns-then-current-eq0 : goal.returns-then-current-eq0

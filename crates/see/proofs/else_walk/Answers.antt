@@ -1,8 +1,6 @@
 use Rattle.see.proofs.Scans.{walk_empty, walk_other, walk_met, walk_on, walk_out}
-use Rattle.see.specs.Scans.{walk_over}
 use native.Mathlib.Omega.{arith}
-use mathlib.Core.Path.{◌≡◌, ◌∙◌, refl}
-use Prim.Native.Nat.{◌-◌}
+use mathlib.Core.Path.{◌∙◌, refl}
 use Rattle.see.proofs.else_walk.Goals as goal
 
 pub loop-left-init : goal.loop-left-init

@@ -1,8 +1,5 @@
-use Rattle.see.proofs.Scans.{walk_empty, walk_other, walk_met, walk_on, walk_out}
 use Rattle.see.specs.Scans.{walk_over}
-use native.Mathlib.Omega.{arith}
-use mathlib.Core.Path.{◌≡◌, ◌∙◌, refl}
-use Prim.Native.Nat.{◌-◌}
+use mathlib.Core.Path.{◌≡◌}
 use Rattle.see.proofs.else_walk.Given as goal
 
 abbrev pub invariant-loop-left : goal.invariant-loop-left

@@ -1,10 +1,7 @@
 use Rattle.see.proofs.Scans.{first_none}
 use Rattle.see.proofs.Nexts.{with_met, with_there, first_next, first_this, first_other}
-use Rattle.see.specs.Scans.{first_with}
-use Rattle.plan.specs.Seen.{first_child_or}
-use mathlib.Core.Path.{◌≡◌, ◌∙◌}
-use Prim.Native.Nat.{◌+◌, ◌-◌, ◌≤◌}
-use lib.ListN.{length, drop}
+use mathlib.Core.Path.{◌∙◌}
+use Prim.Native.Nat.{◌+◌}
 use Rattle.see.proofs.first_child.Goals as goal
 
 pub loop-i-init : goal.loop-i-init

@@ -1,9 +1,5 @@
 use Rattle.see.proofs.Nexts.{block_begins, block_more, block_with, block_without}
-use Rattle.see.specs.Scans.{first_with}
 use native.Mathlib.Omega.{arith}
-use mathlib.Core.Path.{◌≡◌}
-use Prim.Native.Nat.{◌+◌, ◌-◌, ◌≤◌}
-use lib.ListN.{drop}
 use Rattle.see.proofs.is_block_without.Goals as goal
 
 pub loop-j-init : goal.loop-j-init

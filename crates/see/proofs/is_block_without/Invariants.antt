@@ -1,6 +1,4 @@
-use Rattle.see.proofs.Nexts.{block_begins, block_more, block_with, block_without}
 use Rattle.see.specs.Scans.{first_with}
-use native.Mathlib.Omega.{arith}
 use mathlib.Core.Path.{◌≡◌}
 use Prim.Native.Nat.{◌+◌, ◌-◌, ◌≤◌}
 use lib.ListN.{drop}

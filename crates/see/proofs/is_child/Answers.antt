@@ -1,9 +1,7 @@
 use Rattle.see.proofs.Nexts.{with_met, with_there, child_next, child_this, child_later, child_no}
-use Rattle.see.specs.Scans.{first_with, is_child_in}
 use Rattle.definition.specs.Rows.{same_list}
-use mathlib.Core.Path.{◌≡◌, ◌∙◌}
-use Prim.Native.Nat.{◌+◌, ◌-◌, ◌≤◌}
-use lib.ListN.{length, drop}
+use mathlib.Core.Path.{◌∙◌}
+use Prim.Native.Nat.{◌+◌}
 use Rattle.see.proofs.is_child.Goals as goal
 
 pub loop-i-init : goal.loop-i-init

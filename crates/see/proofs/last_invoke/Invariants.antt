@@ -1,10 +1,7 @@
-use Rattle.see.proofs.Scans.{at_last, before_last, none_last}
 use Rattle.definition.specs.Actions.{last_with}
-use lib.Seq.{take-length}
 use lib.ListN.{length, take}
-use native.Mathlib.Omega.{arith}
-use mathlib.Core.Path.{◌≡◌, ap, ◌∙◌}
-use Prim.Native.Nat.{◌-◌, ◌≤◌}
+use mathlib.Core.Path.{◌≡◌}
+use Prim.Native.Nat.{◌≤◌}
 use Rattle.see.proofs.last_invoke.Given as goal
 
 abbrev pub invariant-loop-k : goal.invariant-loop-k

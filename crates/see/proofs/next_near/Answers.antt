@@ -1,9 +1,6 @@
 use Rattle.see.proofs.Nexts.{with_here, with_later, with_none}
-use Rattle.see.specs.Scans.{first_with}
 use native.Mathlib.Omega.{arith}
-use mathlib.Core.Path.{◌≡◌, refl}
-use Prim.Native.Nat.{◌+◌, ◌-◌, ◌≤◌}
-use lib.ListN.{length, drop}
+use mathlib.Core.Path.{refl}
 use Rattle.see.proofs.next_near.Goals as goal
 
 pub loop-i-init : goal.loop-i-init

@@ -1,7 +1,5 @@
-use Rattle.see.proofs.Nexts.{with_here, with_later, with_none}
 use Rattle.see.specs.Scans.{first_with}
-use native.Mathlib.Omega.{arith}
-use mathlib.Core.Path.{◌≡◌, refl}
+use mathlib.Core.Path.{◌≡◌}
 use Prim.Native.Nat.{◌+◌, ◌-◌, ◌≤◌}
 use lib.ListN.{length, drop}
 use Rattle.see.proofs.next_near.Given as goal

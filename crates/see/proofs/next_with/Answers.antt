@@ -1,10 +1,7 @@
 use mathlib.Core.Bool.{not}
 use Rattle.see.proofs.Nexts.{block_past}
-use Rattle.see.specs.Scans.{first_with}
 use native.Mathlib.Omega.{arith}
-use mathlib.Core.Path.{ap, ◌≡◌, refl, ◌∙◌}
-use Prim.Native.Nat.{◌+◌, ◌-◌, ◌≤◌}
-use lib.ListN.{length, drop}
+use mathlib.Core.Path.{ap, refl, ◌∙◌}
 use Rattle.see.proofs.next_with.Goals as goal
 
 pub loop-i-init : goal.loop-i-init

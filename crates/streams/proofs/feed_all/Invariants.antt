@@ -1,12 +1,9 @@
 use Prim.Native.Nat.{◌-◌}
-use mathlib.Core.Path.{◌≡◌, refl, sym, ◌∙◌}
-use native.Mathlib.Omega.{arith}
+use mathlib.Core.Path.{◌≡◌}
 use lib.ListN.{length}
 use Rattle.questions.specs.Lent.{tables, lent}
-use Rattle.event.specs.Described.{described_by}
-use Rattle.feed.proofs.Laws.{out_of}
-use Rattle.streams.proofs.Lens.{Lens, unchanged}
-use Rattle.streams.proofs.Laws.{ends, Ran, ran_first, goes_on, stays_in, taken_apart, ran_more, ran_stop, ran_last}
+use Rattle.streams.proofs.Lens.{Lens}
+use Rattle.streams.proofs.Laws.{Ran}
 use Rattle.streams.proofs.feed_all.Given as goal
 
 abbrev pub invariant-loop-i : goal.invariant-loop-i

@@ -1,6 +1,5 @@
 use Rattle.tables.specs.Whole.{member_in, set_unless}
-use mathlib.Core.Path.{refl, sym, ap, ap₂, ◌∙◌}
-use native.Mathlib.Omega.{arith}
+use mathlib.Core.Path.{ap, ◌∙◌}
 use Rattle.tables.proofs.add_member.Goals as goal
 
 -- src/lib.rt:107:1

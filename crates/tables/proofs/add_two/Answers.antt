@@ -1,8 +1,7 @@
 use Rattle.tables.specs.Whole.{member_in}
 use Rattle.definition.specs.Rows.{Table}
 use Prim.Native.Nat.{ℕ}
-use mathlib.Core.Path.{refl, sym, ap, ap₂, ◌∙◌}
-use native.Mathlib.Omega.{arith}
+use mathlib.Core.Path.{ap₂, ◌∙◌}
 use Rattle.tables.proofs.add_two.Goals as goal
 
 -- src/lib.rt:115:1

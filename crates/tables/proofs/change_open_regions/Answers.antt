@@ -1,5 +1,4 @@
 use Rattle.tables.proofs.Laws.{open_regions_done}
-use mathlib.Core.Path.{refl, sym, ap, ap₂, ◌∙◌}
 use native.Mathlib.Omega.{arith}
 use Rattle.tables.proofs.change_open_regions.Goals as goal
 

@@ -1,7 +1,5 @@
 use Rattle.tables.specs.Whole.{opened_row}
 use Rattle.tables.proofs.Laws.{opens_one, opens_none}
-use mathlib.Core.Path.{refl, sym, ap, ap₂, ◌∙◌}
-use native.Mathlib.Omega.{arith}
 use Rattle.tables.proofs.change_opened.Goals as goal
 
 -- src/lib.rt:144:9

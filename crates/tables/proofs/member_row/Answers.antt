@@ -1,6 +1,5 @@
 use Rattle.plan.specs.After.{member_row}
-use mathlib.Core.Path.{refl, sym, ap, ap₂, ◌∙◌}
-use native.Mathlib.Omega.{arith}
+use mathlib.Core.Path.{refl}
 use Rattle.tables.proofs.member_row.Goals as goal
 
 -- src/lib.rt:101:1

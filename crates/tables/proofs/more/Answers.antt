@@ -1,5 +1,4 @@
 use Rattle.tables.proofs.Laws.{after_no, after_yes}
-use mathlib.Core.Path.{refl, sym, ap, ap₂, ◌∙◌}
 use native.Mathlib.Omega.{arith}
 use Rattle.tables.proofs.more.Goals as goal
 

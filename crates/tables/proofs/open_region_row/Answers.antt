@@ -1,6 +1,5 @@
 use Rattle.definition.specs.Change.{open_region_row}
-use mathlib.Core.Path.{refl, sym, ap, ap₂, ◌∙◌}
-use native.Mathlib.Omega.{arith}
+use mathlib.Core.Path.{refl}
 use Rattle.tables.proofs.open_region_row.Goals as goal
 
 -- src/lib.rt:148:1

@@ -1,5 +1,5 @@
 use lib.Seq.{set_out}
-use mathlib.Core.Path.{refl, sym, ap, ap₂, ◌∙◌}
+use mathlib.Core.Path.{sym}
 use native.Mathlib.Omega.{arith}
 use Rattle.tables.proofs.put_8.Goals as goal
 

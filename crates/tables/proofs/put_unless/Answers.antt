@@ -1,6 +1,5 @@
 use Rattle.tables.proofs.Laws.{unless_no, unless_yes}
-use mathlib.Core.Path.{refl, sym, ap, ap₂, ◌∙◌}
-use native.Mathlib.Omega.{arith}
+use mathlib.Core.Path.{refl}
 use Rattle.tables.proofs.put_unless.Goals as goal
 
 -- src/lib.rt:30:9

@@ -1,13 +1,11 @@
-use Rattle.targets.proofs.LoopLaws.{Entering, value, value_length, entering_start, entering_end, entering_more, name_fits_lem, name_room, name_small, member_room}
+use Rattle.targets.proofs.LoopLaws.{value, value_length, entering_start, entering_end, entering_more, name_fits_lem, name_room, name_small, member_room}
 use Rattle.names.proofs.Laws.{words_none, words_end}
-use Rattle.targets.specs.Enter.{enter_all, member_row, names_at}
 use Rattle.words.specs.Next.{next_word}
-use Rattle.definition.specs.Look.{name_cells, resolve}
-use Rattle.definition.specs.Text.{bytes_at, is_separator}
-use lib.ListN.{length, take}
-use mathlib.Core.List.{List, ◌++◌, map}
+use Rattle.definition.specs.Text.{is_separator}
+use lib.ListN.{length}
+use mathlib.Core.List.{List}
 use mathlib.Core.Path.{ap, subst, ◌∙◌}
-use Prim.Native.Nat.{ℕ, ◌+◌, ◌-◌, ◌<◌, ◌≤◌}
+use Prim.Native.Nat.{ℕ, ◌<◌, ◌≤◌}
 use native.Mathlib.Omega.{arith}
 use Rattle.targets.proofs.enter_targets.Goals as goal
 

@@ -1,14 +1,10 @@
-use Rattle.targets.proofs.LoopLaws.{Entering, value, value_length, entering_start, entering_end, entering_more, name_fits_lem, name_room, name_small, member_room}
-use Rattle.names.proofs.Laws.{words_none, words_end}
+use Rattle.targets.proofs.LoopLaws.{Entering}
 use Rattle.targets.specs.Enter.{enter_all, member_row, names_at}
-use Rattle.words.specs.Next.{next_word}
 use Rattle.definition.specs.Look.{name_cells, resolve}
-use Rattle.definition.specs.Text.{bytes_at, is_separator}
+use Rattle.definition.specs.Text.{bytes_at}
 use lib.ListN.{length, take}
-use mathlib.Core.List.{List, ◌++◌, map}
-use mathlib.Core.Path.{ap, subst, ◌∙◌}
-use Prim.Native.Nat.{ℕ, ◌+◌, ◌-◌, ◌<◌, ◌≤◌}
-use native.Mathlib.Omega.{arith}
+use mathlib.Core.List.{◌++◌, map}
+use Prim.Native.Nat.{◌+◌, ◌-◌}
 use Rattle.targets.proofs.enter_targets.Given as goal
 
 abbrev pub invariant-loop-at : goal.invariant-loop-at

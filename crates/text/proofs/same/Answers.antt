@@ -1,10 +1,7 @@
 use Rattle.definition.proofs.Base.{same_length}
-use Rattle.definition.specs.Text.{same}
 use Rattle.text.proofs.Laws.{same_more, same_stop, same_end}
-use Prim.Native.Nat.{◌≤◌, ◌-◌}
-use mathlib.Core.Path.{◌≡◌, refl, sym, ◌∙◌}
+use mathlib.Core.Path.{refl, sym, ◌∙◌}
 use borrow.Author.Rules.{rules}
-use lib.ListN.{length, drop}
 use Rattle.text.proofs.same.Goals as goal
 
 pub returns-then-a-b : goal.returns-then-a-b

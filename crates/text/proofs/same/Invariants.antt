@@ -1,8 +1,6 @@
-use Rattle.definition.proofs.Base.{same_length}
 use Rattle.definition.specs.Text.{same}
-use Rattle.text.proofs.Laws.{same_more, same_stop, same_end}
 use Prim.Native.Nat.{◌≤◌, ◌-◌}
-use mathlib.Core.Path.{◌≡◌, refl, sym, ◌∙◌}
+use mathlib.Core.Path.{◌≡◌}
 use lib.ListN.{length, drop}
 use Rattle.text.proofs.same.Given as goal
 

@@ -1,11 +1,9 @@
 use Rattle.definition.proofs.Base.{same_length}
-use Rattle.definition.specs.Text.{same, lowered}
+use Rattle.definition.specs.Text.{lowered}
 use Rattle.text.proofs.Laws.{same_more, same_stop, same_end, lowered_at, lowered_length}
-use Prim.Native.Nat.{◌≤◌, ◌-◌}
-use mathlib.Core.Path.{◌≡◌, refl, sym, ◌∙◌}
+use mathlib.Core.Path.{refl, sym, ◌∙◌}
 use native.Mathlib.Omega.{arith}
 use borrow.Author.Rules.{rules}
-use lib.ListN.{length, drop}
 use Rattle.text.proofs.same_lowered.Goals as goal
 
 pub returns-then-w-v : goal.returns-then-w-v

@@ -1,9 +1,6 @@
-use Rattle.definition.proofs.Base.{same_length}
 use Rattle.definition.specs.Text.{same, lowered}
-use Rattle.text.proofs.Laws.{same_more, same_stop, same_end, lowered_at, lowered_length}
 use Prim.Native.Nat.{◌≤◌, ◌-◌}
-use mathlib.Core.Path.{◌≡◌, refl, sym, ◌∙◌}
-use native.Mathlib.Omega.{arith}
+use mathlib.Core.Path.{◌≡◌}
 use lib.ListN.{length, drop}
 use Rattle.text.proofs.same_lowered.Given as goal
 

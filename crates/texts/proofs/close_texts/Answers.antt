@@ -1,7 +1,5 @@
 use Rattle.texts.proofs.Laws.{closed_done}
 use Rattle.fill.specs.Fill.{cell}
-use mathlib.Core.Path.{refl, sym, ap, ap₂, ◌∙◌}
-use native.Mathlib.Omega.{arith}
 use Rattle.texts.proofs.close_texts.Goals as goal
 
 -- src/lib.rt:69:1

@@ -3,7 +3,7 @@ use Rattle.fill.specs.Fill.{cell}
 use Rattle.definition.specs.Rows.{with_cell}
 use lib.ListN.{get_or}
 use Prim.Native.Nat.{ℕ, ◌+◌}
-use mathlib.Core.Path.{refl, sym, ap, ap₂, ◌∙◌}
+use mathlib.Core.Path.{sym, ap, ◌∙◌}
 use native.Mathlib.Omega.{arith}
 use Rattle.texts.proofs.put_text.Goals as goal
 

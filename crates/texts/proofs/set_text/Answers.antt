@@ -1,6 +1,4 @@
 use Rattle.texts.proofs.Laws.{set_done}
-use mathlib.Core.Path.{refl, sym, ap, ap₂, ◌∙◌}
-use native.Mathlib.Omega.{arith}
 use Rattle.texts.proofs.set_text.Goals as goal
 
 -- src/lib.rt:22:1

@@ -1,7 +1,5 @@
 use mathlib.Core.Path.{◌∙◌, ap}
-use mathlib.Core.List.{List}
 use lib.ListN.{take}
-use Prim.Native.Nat.{ℕ}
 use Rattle.plain.specs.Plain.{loads_in}
 use Rattle.fill.specs.Fill.{as_cell}
 use Rattle.texts.specs.Texts.{texts_in}

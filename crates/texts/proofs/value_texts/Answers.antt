@@ -1,6 +1,4 @@
-use Rattle.texts.proofs.Laws.{Texting, texting_start, texting_end, text_fits_lem, texting_more}
-use lib.ListN.{length-map}
-use Prim.Native.Nat.{◌-◌}
+use Rattle.texts.proofs.Laws.{texting_start, texting_end, text_fits_lem, texting_more}
 use mathlib.Core.Path.{refl}
 use native.Mathlib.Omega.{arith}
 use Rattle.texts.proofs.value_texts.Goals as goal

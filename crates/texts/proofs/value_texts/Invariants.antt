@@ -1,8 +1,5 @@
-use Rattle.texts.proofs.Laws.{Texting, texting_start, texting_end, text_fits_lem, texting_more}
-use lib.ListN.{length-map}
+use Rattle.texts.proofs.Laws.{Texting}
 use Prim.Native.Nat.{◌-◌}
-use mathlib.Core.Path.{refl}
-use native.Mathlib.Omega.{arith}
 use Rattle.texts.proofs.value_texts.Given as goal
 
 abbrev pub invariant-loop-i : goal.invariant-loop-i

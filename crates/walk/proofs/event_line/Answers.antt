@@ -1,7 +1,6 @@
 use mathlib.Core.Bool.{not}
 use Rattle.definition.specs.Text.{str}
 use Rattle.lines.specs.Blocks.{all, is_within_line}
-use Rattle.walk.proofs.LineIn.{behind_within}
 use Rattle.walk.proofs.TakesLaws.{ended_bounds, event_none, head_open, event_takes}
 use borrow.Author.Tests.{not-true, not-false}
 use native.Mathlib.Omega.{arith}

@@ -2,7 +2,6 @@ use mathlib.Core.Bool.{not, false}
 use Rattle.walk.proofs.CodeLaws.{not_found, is_found, size_small}
 use mathlib.Core.Path.{ap, ◌∙◌}
 use Rattle.parts.specs.declared.Part.{Part}
-use Prim.Native.Nat.{◌-◌}
 use native.Mathlib.Omega.{arith}
 use borrow.Author.Tests.{not-true, not-false}
 use Rattle.walk.proofs.find_part.Goals as goal

@@ -1,6 +1,5 @@
-use mathlib.Core.Bool.{not}
 use borrow.Author.Tests.{not-true, not-false}
-use mathlib.Core.Path.{ap, ◌∙◌}
+use mathlib.Core.Path.{◌∙◌}
 use Rattle.walk.proofs.StepLaws.{event_lost, event_within, name_lost, name_reached}
 use Rattle.walk.proofs.walk_lines.Goals as goal
 

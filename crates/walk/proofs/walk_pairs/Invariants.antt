@@ -1,14 +1,8 @@
 use Prim.Native.Nat.{◌-◌, ◌<◌}
-use mathlib.Core.Path.{◌≡◌, sym, ap, subst, ◌∙◌}
-use mathlib.Core.List.{List}
+use mathlib.Core.Path.{◌≡◌}
 use lib.ListN.{length}
-use borrow.Author.Tests.{not-true, not-false}
-use native.Mathlib.Omega.{arith}
-use Rattle.parts.specs.declared.Pair.{Pair}
-use Rattle.parts.specs.Parts.{pairs_of, walked_by}
-use Rattle.walk.specs.declared.Walk.{Walk}
+use Rattle.parts.specs.Parts.{pairs_of}
 use Rattle.walk.specs.Stream.{Reached, made}
-use Rattle.walk.proofs.StepLaws.{key_lost, key_within, code_small, value_lost, pairs_full, pair_reached, pair_further}
 use Rattle.walk.proofs.walk_pairs.Given as goal
 
 abbrev pub invariant-loop-k : goal.invariant-loop-k

@@ -1,7 +1,5 @@
-use Rattle.wordlists.proofs.Laws.{Listing, listing_start, listing_none, listing_end, listing_more, lies, kept_short}
-use lib.ListN.{length}
-use Prim.Native.Nat.{◌-◌}
-use mathlib.Core.Path.{refl, sym, ap, ap₂, ◌∙◌}
+use Rattle.wordlists.proofs.Laws.{listing_start, listing_none, listing_end, listing_more, lies, kept_short}
+use mathlib.Core.Path.{refl}
 use native.Mathlib.Omega.{arith}
 use Rattle.wordlists.proofs.add_words.Goals as goal
 

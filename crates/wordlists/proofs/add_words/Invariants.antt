@@ -1,8 +1,6 @@
-use Rattle.wordlists.proofs.Laws.{Listing, listing_start, listing_none, listing_end, listing_more, lies, kept_short}
+use Rattle.wordlists.proofs.Laws.{Listing}
 use lib.ListN.{length}
 use Prim.Native.Nat.{◌-◌}
-use mathlib.Core.Path.{refl, sym, ap, ap₂, ◌∙◌}
-use native.Mathlib.Omega.{arith}
 use Rattle.wordlists.proofs.add_words.Given as goal
 
 abbrev pub invariant-loop-at : goal.invariant-loop-at

@@ -1,6 +1,5 @@
 use Rattle.wordlists.proofs.Laws.{kept_events, kept_states}
-use mathlib.Core.Path.{refl, sym, ap, ap₂, ◌∙◌}
-use native.Mathlib.Omega.{arith}
+use mathlib.Core.Path.{◌∙◌}
 use Rattle.wordlists.proofs.kept_len.Goals as goal
 
 -- src/lib.rt:58:9

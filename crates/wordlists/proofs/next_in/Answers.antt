@@ -1,6 +1,5 @@
 use Rattle.wordlists.proofs.Laws.{next_events, next_states}
-use mathlib.Core.Path.{refl, sym, ap, ap₂, ◌∙◌}
-use native.Mathlib.Omega.{arith}
+use mathlib.Core.Path.{◌∙◌}
 use Rattle.wordlists.proofs.next_in.Goals as goal
 
 -- src/lib.rt:49:9

@@ -2,11 +2,9 @@ use mathlib.Core.Bool.{not}
 use Rattle.definition.specs.Text.{body_length}
 use Rattle.words.proofs.Ends.{body_more, body_stop, body_none}
 use lib.Seq.{take-length}
-use Prim.Native.Nat.{◌≤◌}
-use mathlib.Core.Path.{◌≡◌, sym, ◌∙◌, ap}
+use mathlib.Core.Path.{sym, ◌∙◌, ap}
 use borrow.Author.Rules.{rules}
 use borrow.Author.Tests.{not-true, not-false}
-use lib.ListN.{length, take}
 use Rattle.words.proofs.body_length.Goals as goal
 
 pub loop-n-init : goal.loop-n-init

@@ -1,9 +1,6 @@
 use Rattle.definition.specs.Text.{body_length}
-use Rattle.words.proofs.Ends.{body_more, body_stop, body_none}
-use lib.Seq.{take-length}
 use Prim.Native.Nat.{◌≤◌}
-use mathlib.Core.Path.{◌≡◌, sym, ◌∙◌, ap}
-use borrow.Author.Tests.{not-true, not-false}
+use mathlib.Core.Path.{◌≡◌}
 use lib.ListN.{length, take}
 use Rattle.words.proofs.body_length.Given as goal
 

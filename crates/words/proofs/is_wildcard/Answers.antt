@@ -1,10 +1,7 @@
-use Rattle.definition.specs.Text.{wildcard, event_words}
-use Rattle.words.proofs.Ends.{events_from, events_all, events_end, word_lies, found_star, found_none}
-use Prim.Native.Nat.{◌≤◌, ◌-◌}
-use mathlib.Core.Path.{◌≡◌, sym, ◌∙◌}
+use Rattle.words.proofs.Ends.{events_all, events_end, word_lies, found_star, found_none}
+use mathlib.Core.Path.{sym, ◌∙◌}
 use native.Mathlib.Omega.{arith}
 use borrow.Author.Rules.{rules}
-use lib.ListN.{length}
 use Rattle.words.proofs.is_wildcard.Goals as goal
 
 pub loop-at-init : goal.loop-at-init

@@ -1,8 +1,7 @@
 use Rattle.definition.specs.Text.{wildcard, event_words}
-use Rattle.words.proofs.Ends.{events_from, events_all, events_end, word_lies, found_star, found_none}
+use Rattle.words.proofs.Ends.{events_from}
 use Prim.Native.Nat.{◌≤◌, ◌-◌}
-use mathlib.Core.Path.{◌≡◌, sym, ◌∙◌}
-use native.Mathlib.Omega.{arith}
+use mathlib.Core.Path.{◌≡◌}
 use lib.ListN.{length}
 use Rattle.words.proofs.is_wildcard.Given as goal
 

@@ -1,10 +1,7 @@
 use mathlib.Core.Bool.{not}
-use Rattle.words.specs.Next.{parted_by, gap}
 use Rattle.words.proofs.Laws.{gap_again, gap_halt, gap_end}
-use Prim.Native.Nat.{◌+◌, ◌-◌}
-use mathlib.Core.Path.{ap, ◌≡◌, refl, sym, ◌∙◌}
+use mathlib.Core.Path.{ap, refl, sym, ◌∙◌}
 use borrow.Author.Tests.{not-true, not-false}
-use lib.ListN.{length, drop}
 use Rattle.words.proofs.skip_gap.Goals as goal
 
 pub loop-i-init : goal.loop-i-init

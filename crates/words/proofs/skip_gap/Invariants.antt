@@ -1,8 +1,6 @@
 use Rattle.words.specs.Next.{parted_by, gap}
-use Rattle.words.proofs.Laws.{gap_again, gap_halt, gap_end}
 use Prim.Native.Nat.{◌+◌, ◌-◌}
-use mathlib.Core.Path.{◌≡◌, refl, sym, ◌∙◌}
-use borrow.Author.Tests.{not-true, not-false}
+use mathlib.Core.Path.{◌≡◌}
 use lib.ListN.{length, drop}
 use Rattle.words.proofs.skip_gap.Given as goal
 

@@ -1,8 +1,5 @@
-use Rattle.words.specs.Next.{parted_by, run}
 use Rattle.words.proofs.Laws.{run_again, run_halt, run_end}
-use Prim.Native.Nat.{◌+◌, ◌-◌}
-use mathlib.Core.Path.{◌≡◌, refl, sym, ◌∙◌}
-use lib.ListN.{length, drop}
+use mathlib.Core.Path.{refl, sym, ◌∙◌}
 use Rattle.words.proofs.skip_run.Goals as goal
 
 pub loop-i-init : goal.loop-i-init

@@ -1,7 +1,6 @@
 use Rattle.words.specs.Next.{parted_by, run}
-use Rattle.words.proofs.Laws.{run_again, run_halt, run_end}
 use Prim.Native.Nat.{◌+◌, ◌-◌}
-use mathlib.Core.Path.{◌≡◌, refl, sym, ◌∙◌}
+use mathlib.Core.Path.{◌≡◌}
 use lib.ListN.{length, drop}
 use Rattle.words.proofs.skip_run.Given as goal
 

@@ -1,10 +1,7 @@
-use Rattle.definition.specs.Text.{stripped, strip_last}
 use Rattle.words.proofs.Ends.{strip_again, strip_done, strip_all, strip_nothing}
-use Prim.Native.Nat.{◌≤◌}
-use mathlib.Core.Path.{◌≡◌, sym, ◌∙◌, ap}
-use mathlib.Core.List.{reverse}
+use mathlib.Core.Path.{sym, ◌∙◌, ap}
 use borrow.Author.Rules.{rules}
-use lib.ListN.{length, take}
+use lib.ListN.{length}
 use Rattle.words.proofs.stripped_len.Goals as goal
 
 pub loop-n-init : goal.loop-n-init

@@ -1,7 +1,6 @@
 use Rattle.definition.specs.Text.{stripped, strip_last}
-use Rattle.words.proofs.Ends.{strip_again, strip_done, strip_all, strip_nothing}
 use Prim.Native.Nat.{◌≤◌}
-use mathlib.Core.Path.{◌≡◌, sym, ◌∙◌, ap}
+use mathlib.Core.Path.{◌≡◌}
 use mathlib.Core.List.{reverse}
 use lib.ListN.{length, take}
 use Rattle.words.proofs.stripped_len.Given as goal

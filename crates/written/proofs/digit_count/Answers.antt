@@ -1,9 +1,7 @@
 use Rattle.written.proofs.Laws.{count_one, count_more, count_end}
-use Prim.Native.Nat.{◌≤◌, ◌+◌, ◌-◌}
-use mathlib.Core.Path.{◌≡◌, ◌∙◌}
+use mathlib.Core.Path.{◌∙◌}
 use borrow.Author.Rules.{rules}
-use lib.ListN.{length}
-use Rattle.definition.specs.Text.{digits, decimal}
+use Rattle.definition.specs.Text.{decimal}
 use Rattle.written.proofs.digit_count.Goals as goal
 
 pub loop-k-init : goal.loop-k-init

@@ -1,6 +1,5 @@
-use Rattle.written.proofs.Laws.{count_one, count_more, count_end}
 use Prim.Native.Nat.{◌≤◌, ◌+◌, ◌-◌}
-use mathlib.Core.Path.{◌≡◌, ◌∙◌}
+use mathlib.Core.Path.{◌≡◌}
 use lib.ListN.{length}
 use Rattle.definition.specs.Text.{digits, decimal}
 use Rattle.written.proofs.digit_count.Given as goal

@@ -1,9 +1,7 @@
 use Rattle.written.proofs.Laws.{escape_length, escape_end}
-use Prim.Native.Nat.{◌≤◌, ◌+◌, ◌-◌}
-use mathlib.Core.Path.{◌≡◌, ap}
+use mathlib.Core.Path.{ap}
 use native.Mathlib.Omega.{arith}
-use lib.ListN.{length, drop}
-use Rattle.definition.specs.Text.{escaped_quotes}
+use lib.ListN.{length}
 use Rattle.written.proofs.marks.Goals as goal
 
 pub loop-i-preserved : goal.loop-i-preserved

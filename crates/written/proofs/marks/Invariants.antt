@@ -1,7 +1,5 @@
-use Rattle.written.proofs.Laws.{escape_length, escape_end}
 use Prim.Native.Nat.{◌≤◌, ◌+◌, ◌-◌}
-use mathlib.Core.Path.{◌≡◌, ap}
-use native.Mathlib.Omega.{arith}
+use mathlib.Core.Path.{◌≡◌}
 use lib.ListN.{length, drop}
 use Rattle.definition.specs.Text.{escaped_quotes}
 use Rattle.written.proofs.marks.Given as goal

@@ -1,10 +1,9 @@
 use Rattle.written.proofs.Laws.{rest, rest_all, put_last, rest_long, put_more, put_end}
-use Prim.Native.Nat.{ℕ, ◌≤◌, ◌+◌, ◌-◌, ◌/◌}
-use mathlib.Core.Path.{◌≡◌, refl, sym, ◌∙◌, ap}
+use Prim.Native.Nat.{ℕ, ◌+◌, ◌-◌, ◌/◌}
+use mathlib.Core.Path.{refl, sym, ◌∙◌, ap}
 use borrow.Author.Rules.{rules}
 use lib.ListN.{length, set}
 use lib.Seq.{sets}
-use Rattle.definition.specs.Text.{decimal}
 use Rattle.written.proofs.put_digits.Goals as goal
 
 pub loop-k-init : goal.loop-k-init

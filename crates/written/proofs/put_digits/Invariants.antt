@@ -1,7 +1,7 @@
-use Rattle.written.proofs.Laws.{rest, rest_all, put_last, rest_long, put_more, put_end}
-use Prim.Native.Nat.{ℕ, ◌≤◌, ◌+◌, ◌-◌, ◌/◌}
-use mathlib.Core.Path.{◌≡◌, refl, sym, ◌∙◌, ap}
-use lib.ListN.{length, set}
+use Rattle.written.proofs.Laws.{rest}
+use Prim.Native.Nat.{◌≤◌}
+use mathlib.Core.Path.{◌≡◌}
+use lib.ListN.{length}
 use lib.Seq.{sets}
 use Rattle.definition.specs.Text.{decimal}
 use Rattle.written.proofs.put_digits.Given as goal

@@ -1,11 +1,9 @@
 use Rattle.written.proofs.Laws.{escape_length, escape_end, escape_step, kept_length}
-use Prim.Native.Nat.{◌≤◌, ◌+◌, ◌-◌}
-use mathlib.Core.Path.{◌≡◌, refl, sym, ◌∙◌, ap}
+use mathlib.Core.Path.{refl, sym, ◌∙◌, ap}
 use native.Mathlib.Omega.{arith}
 use borrow.Author.Rules.{rules}
-use lib.ListN.{length, get_or, drop}
+use lib.ListN.{length, get_or}
 use lib.Seq.{sets}
-use Rattle.definition.specs.Text.{escaped_quotes}
 use Rattle.written.specs.Written.{escape}
 use Rattle.written.proofs.put_escapes.Goals as goal
 

@@ -1,11 +1,8 @@
-use Rattle.written.proofs.Laws.{escape_length, escape_end, escape_step, kept_length}
 use Prim.Native.Nat.{◌≤◌, ◌+◌, ◌-◌}
-use mathlib.Core.Path.{◌≡◌, refl, sym, ◌∙◌, ap}
-use native.Mathlib.Omega.{arith}
-use lib.ListN.{length, get_or, drop}
+use mathlib.Core.Path.{◌≡◌}
+use lib.ListN.{length, drop}
 use lib.Seq.{sets}
 use Rattle.definition.specs.Text.{escaped_quotes}
-use Rattle.written.specs.Written.{escape}
 use Rattle.written.proofs.put_escapes.Given as goal
 
 abbrev pub invariant-loop-i : goal.invariant-loop-i
