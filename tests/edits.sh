@@ -8,5 +8,5 @@ look_at_edits() {
         grep -E 'only because a proof file names|: error: .*(is not in scope|has no field|is not a field|is not a constructor|was not admitted)') &&
         red "refused, but for no fact:"$'\n'"$empty"
     grep -q '^rt: ok;' "$log" || red "rt ci has no line 'rt: ok'"
-    if grep -E '^rt: ok;.*, [1-9][0-9]* bad' "$log"; then red "must-fail edits are bad: grep 'BAD EDIT' in $log"; fi
+    if grep -Eq '^rt: ok;.*, [1-9][0-9]* bad' "$log"; then red "edits that must fail are bad: BAD EDIT, above"; fi
 }

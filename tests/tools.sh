@@ -30,7 +30,7 @@ build_judge() {
 
 # Proves and builds the program chartlist; quick where nothing has changed. Only `rt run` builds a program, so it runs here too, on no input.
 build_chartlist() {
-    local log="$PWD/target/chartlist.log"
+    local log=target/chartlist.log
     need rt "the Rattle toolchain"
     mkdir -p target
     [ -x "$chartlist" ] || say "Building chartlist: the crates that it stands on are proved first. From a fresh clone that takes some minutes; a line follows for each."
