@@ -1,4 +1,4 @@
-//! Links the static library that `rt staticlib` writes.
+//! Links the static library that `host/library.sh` writes.
 
 use std::path::Path;
 
@@ -7,9 +7,7 @@ fn main() {
     let library = folder.join("libreader.a");
     println!("cargo::rerun-if-changed={}", library.display());
     if !library.exists() {
-        println!(
-            "cargo::error=target/staticlib/libreader.a is not there: run `rt staticlib reader` in the repository first"
-        );
+        println!("cargo::error=target/staticlib/libreader.a is not there: run host/library.sh first");
         return;
     }
     println!("cargo::rustc-link-search=native={}", folder.display());

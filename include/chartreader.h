@@ -42,7 +42,7 @@
  *     state 1: __id1, below 0
  *     state 2: off, below 1
  *
- * and is compiled, where target/staticlib/libreader.a was written by `rt staticlib reader`, by
+ * and is compiled, where target/staticlib/libreader.a was written by host/library.sh, by
  *
  *     cc -std=c99 -Iinclude lamp.c target/staticlib/libreader.a
  *

@@ -22,18 +22,12 @@ fn header() -> Numbers {
     numbers.collect()
 }
 
-/// `hasContent` as `HAS_CONTENT`.
-fn upper(name: &str) -> String {
-    let split = name.chars().flat_map(|c| c.is_uppercase().then_some('_').into_iter().chain([c.to_ascii_uppercase()]));
-    split.collect()
-}
-
 /// A record of the definition's schema: `name = number;` between its braces.
 fn record(schema: &str, name: &str) -> Numbers {
     let body = schema.split(&format!("\n{name} =\n    record {{")).nth(1).unwrap_or_else(|| panic!("no record {name}"));
     let body = body.split('}').next().expect("its end");
     let fields = body.split(';').filter_map(|field| field.split_once(" = "));
-    let numbers = fields.map(|(field, number)| (upper(field.trim()), number.trim().parse().expect("a number")));
+    let numbers = fields.map(|(field, number)| (field.trim().to_uppercase(), number.trim().parse().expect("a number")));
     numbers.collect()
 }
 
@@ -60,7 +54,7 @@ const RECORDS: [(&str, &str, &str); 10] = [
     ("datum", "datum", "CHART_DATUM_"),
     ("parameter", "parameter", "CHART_PARAMETER_"),
     ("member", "member", "CHART_MEMBER_"),
-    ("entryKind", "entry_kind", "CHART_"),
+    ("entry_kind", "entry_kind", "CHART_"),
 ];
 
 #[test]
@@ -81,7 +75,7 @@ fn columns_are_the_definitions() {
 fn lists_and_owners_are_the_definitions() {
     let (schema, source, header) = (read("crates/definition/specs/Rows.antt"), read("host/src/columns.rs"), header());
     assert_eq!(columns(&source, "list"), record(&schema, "list"));
-    assert_eq!(columns(&source, "owner_kind"), record(&schema, "ownerKind"));
+    assert_eq!(columns(&source, "owner_kind"), record(&schema, "owner_kind"));
     let lists = [
         "CHART_CHILDREN",
         "CHART_HISTORIES",

@@ -1,4 +1,4 @@
-//! Links the static library that `rt staticlib reader` writes.
+//! Links the static library that `host/library.sh` writes.
 
 use std::path::Path;
 
@@ -6,9 +6,7 @@ fn main() {
     let folder = Path::new(env!("CARGO_MANIFEST_DIR")).join("../../target/staticlib");
     let library = folder.join("libreader.a");
     if !library.exists() {
-        println!(
-            "cargo::error=target/staticlib/libreader.a is not there: run `rt staticlib reader` in the repository first"
-        );
+        println!("cargo::error=target/staticlib/libreader.a is not there: run host/library.sh first");
         return;
     }
     println!("cargo::rustc-link-search=native={}", folder.display());

@@ -1,5 +1,5 @@
 /*
- * The chart reader through its C header. In the repository, after `rt staticlib reader`:
+ * The chart reader through its C header. At the top of the repository, after host/library.sh:
  *
  *     cc -std=c99 -Wall -Wextra -Wpedantic -Werror -Wconversion -Iinclude tests/c/chartreader.c \
  *         target/staticlib/libreader.a -o target/chartreader_c && target/chartreader_c

@@ -30,7 +30,7 @@ impl Case {
             (["Case", "right"], format!("record {{ stream = {}; outcome = {outcome} }}", bytes(stream)))
         } else {
             let events: String = event::split(stream).into_iter().map(|raw| bytes(raw) + " ∷ ").collect();
-            (["Parted", "partedRight"], format!("record {{ events = {events}[]; outcome = {outcome} }}"))
+            (["Parted", "parted_right"], format!("record {{ events = {events}[]; outcome = {outcome} }}"))
         };
         let lines = String::from_utf8_lossy(stream);
         let shown = format!("--- stream {name}: {number} at {event}\n{lines}--- the Rust\n{dump}");
@@ -52,7 +52,7 @@ impl Case {
             .collect();
         Case {
             name: format!("in <{}>", place.parent),
-            kind: ["Place", "placeRight"],
+            kind: ["Place", "place_right"],
             literal,
             is_small: true,
             shown: format!("--- in <{}>\n{shown}", place.parent),

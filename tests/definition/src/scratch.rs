@@ -5,7 +5,8 @@ use crate::cases::Case;
 use std::collections::BTreeMap;
 use std::fs;
 use std::path::{Path, PathBuf};
-use std::process::Command;
+use std::process::{self, Command};
+use std::{env, thread};
 
 const COPIED: [&str; 2] = ["definition", "compare"];
 /// A crate is checked by one thread; the cases are dealt out, so that each crate has its share of long ones.
@@ -33,7 +34,7 @@ fn copy(from: &Path, to: &Path) -> Result<(), String> {
         let path = entry.map_err(|e| e.to_string())?.path();
         let target = to.join(path.file_name().unwrap_or_default());
         match path.file_name().and_then(|name| name.to_str()) {
-            Some("must-fail") => continue,
+            Some("must-fail" | "out") => continue,
             _ if path.is_dir() => copy(&path, &target)?,
             // The crates' own theorems are checked elsewhere; here definitions are evaluated, and functions need their proofs.
             _ if from.ends_with("proofs") => continue,
@@ -50,11 +51,9 @@ fn write(path: &Path, text: &str) -> Result<(), String> {
 }
 
 const HEADER: &str = "\
-use mathlib.Core.Path.{_≡_, refl}
-use mathlib.Core.Bool.{true}
-use mathlib.Core.List.{List, [], _∷_}
-use Rattle·definition.specs.Text.{str}
-use Rattle·compare.specs.Compare.{Case, right, Parted, partedRight, Place, placeRight}
+use Rattle.std.specs.Prelude.{◌≡◌, refl, true, List, [], ◌∷◌}
+use Rattle.definition.specs.Text.{str}
+use Rattle.compare.specs.Compare.{Case, right, Parted, parted_right, Place, place_right}
 ";
 
 /// A case and the claim that it is right. The checker's step limit is per claim, and its refusal names the claim.
@@ -86,7 +85,7 @@ fn crates(root: &Path, cases: &[&Case]) -> Result<Vec<String>, String> {
             write(&path, &format!("{HEADER}{}", batch.concat()))?;
         }
         write(&root.join(format!("crates/{name}/specs/Lib.antt")), &root_module)?;
-        write(&root.join(format!("crates/{name}/src/lib.rt")), "// Some of the cases.\n")?;
+        write(&root.join(format!("crates/{name}/src/lib.rt")), "// Some of the cases.\n\n#![tactic(auto)]\n")?;
         names.push(name);
     }
     Ok(names)
@@ -108,50 +107,85 @@ fn refusals(output: &str) -> BTreeMap<usize, Refusal> {
     found
 }
 
-fn check(root: &Path) -> Result<(bool, String), String> {
-    let run = Command::new("rt").arg("check").env("RT_CUT", "0").current_dir(root).output();
+/// The refused claims of a whole run. A crate that is not told to be proved, and has none, was not evaluated.
+fn refusals_of(names: &[String], output: &str) -> Result<BTreeMap<usize, Refusal>, String> {
+    let mut all = BTreeMap::new();
+    for name in names {
+        let section = output.split(&format!("== {name}\n")).nth(1).and_then(|rest| rest.split("\n== ").next());
+        let found = refusals(section.unwrap_or(""));
+        let proved = output.lines().any(|line| line == format!("{name}: ok"));
+        if proved != found.is_empty() {
+            return Err(format!("the checker stopped at {name} without naming a case:\n{output}"));
+        }
+        all.extend(found);
+    }
+    Ok(all)
+}
+
+fn check(root: &Path) -> Result<String, String> {
+    let processors = thread::available_parallelism().map_or(1, |count| count.get()).to_string();
+    let run = Command::new("rt").args(["all", "check", "--jobs", &processors]).current_dir(root).output();
     let output = run.map_err(|e| format!("rt: {e}"))?;
-    let text = [output.stdout, output.stderr].concat();
-    Ok((output.status.success(), String::from_utf8_lossy(&text).into_owned()))
+    Ok(String::from_utf8_lossy(&[output.stdout, output.stderr].concat()).into_owned())
+}
+
+/// The scratch repository with the cases, and the names of the crates that hold them.
+fn repository_of(root: &Path, cases: &[&Case]) -> Result<Vec<String>, String> {
+    for name in COPIED {
+        copy(&repository().join("crates").join(name), &root.join("crates").join(name))?;
+    }
+    let names = crates(root, cases)?;
+    let lines: String = names.iter().map(|name| format!("{name}: definition compare\n")).collect();
+    write(&root.join("crates.txt"), &format!("definition:\ncompare: definition\n{lines}"))?;
+    Ok(names)
 }
 
 /// The cases that the checker does not find right, by their places. Every other one it has evaluated to `true`.
 pub fn evaluate(cases: &[&Case]) -> Result<BTreeMap<usize, Refusal>, String> {
-    let root = repository().join("target/definition");
-    let _ = fs::remove_dir_all(root.join("crates"));
-    for name in COPIED {
-        copy(&repository().join("crates").join(name), &root.join("crates").join(name))?;
-    }
-    let names = crates(&root, cases)?;
-    let lines: String = names.iter().map(|name| format!("{name}: definition compare\n")).collect();
-    write(&root.join("crates.txt"), &format!("definition:\ncompare: definition\n{lines}"))?;
-    let (proved, output) = check(&root)?;
-    let found = refusals(&output);
-    if proved != found.is_empty() {
-        return Err(format!("the checker stopped without naming a case:\n{output}"));
-    }
-    Ok(found)
+    // Not below the repository, where `rt ci` refuses statements that no crate of crates.txt holds.
+    let root = env::temp_dir().join(format!("definition-{}", process::id()));
+    let found = repository_of(&root, cases).and_then(|names| refusals_of(&names, &check(&root)?));
+    let _ = fs::remove_dir_all(&root);
+    found
 }
 
 #[cfg(test)]
 mod tests {
     use super::*;
 
-    /// As the checker prints them: a claim broken off, and one that is not so.
-    #[test]
-    fn step_limit_is_no_difference() {
-        let output = "\
-A.antt:171:5: error: `right70`: in its elaboration (it was elaborating the text at 173:11–173:15): stopped at the step limit (50000000 steps a task)
-  of its 50000000 steps, 99% went to comparisons
-A.antt:30:6: error: `right5`: expected type `right case5 ≡ true`, but this has type `right case5 ≡ right case5`
-  neither could be computed (expected: computing it took more than 200000 steps)
+    /// As the checker prints them: a claim broken off, two that are not so, and a crate that is right.
+    const OUTPUT: &str = "\
+== batch0
+note: no function with a body is declared, so nothing was lowered
+./specs/Part1.antt:25:5: error: `right70`: in its elaboration (it was elaborating the text at 27:12–27:16): stopped at the step limit (50000000 steps a task, the default)
+  of its 6250475 steps, 99% went to comparisons (unification)
+./specs/Part1.antt:25:5: note: the kernel's check of this declaration met the step limit (in `right70`)
+./specs/Part2.antt:163:12: error: `right5`: expected type `right case5 ≡ true`, but this has type `right case5 ≡ right case5`
+  what the two types compute to is not shown, because neither could be computed
+./specs/Part2.antt:170:12: error: `right6`: computed as far as they go, the two types differ only where one has `true` (expected) and the other has `mathlib.Core.Bool.false` (found)
+logic=not-proved
+== batch1
+logic=proved functions=0
+== summary
+batch0: failed (1)
+batch1: ok
+1 of 2 crates ok
 ";
-        let found: Vec<_> = refusals(output).into_iter().collect();
-        assert_eq!(found, [(5, Refusal::Different), (70, Refusal::StepLimit)]);
+
+    fn names() -> [String; 2] {
+        ["batch0", "batch1"].map(str::to_string)
     }
 
     #[test]
-    fn a_proved_run_names_no_claim() {
-        assert!(refusals("rt: batch0 proved (7 s)\nrt: ok, 3 crates proved\n").is_empty());
+    fn step_limit_is_no_difference() {
+        let found: Vec<_> = refusals_of(&names(), OUTPUT).expect("both crates are told of").into_iter().collect();
+        assert_eq!(found, [(5, Refusal::Different), (6, Refusal::Different), (70, Refusal::StepLimit)]);
+    }
+
+    #[test]
+    fn a_crate_that_names_no_claim_is_proved_or_a_fault() {
+        assert!(refusals_of(&names(), "== summary\nbatch0: ok\nbatch1: ok\n").expect("both are proved").is_empty());
+        assert!(refusals_of(&names(), &OUTPUT.replace("batch1: ok", "batch1: failed (2)")).is_err());
+        assert!(refusals_of(&names(), "rt: mend these first: no library was built\n").is_err());
     }
 }

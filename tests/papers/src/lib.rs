@@ -12,10 +12,11 @@ pub fn read(path: &Path) -> String {
     fs::read_to_string(path).unwrap_or_else(|error| panic!("{}: {error}", path.display()))
 }
 
-/// The files below a folder, in order of their paths.
+/// The files below a folder, in order of their paths, without those that `rt` made.
 pub fn files(folder: &Path) -> Vec<PathBuf> {
     let Ok(entries) = fs::read_dir(folder) else { return Vec::new() };
     let mut paths: Vec<PathBuf> = entries.map(|entry| entry.expect("an entry").path()).collect();
+    paths.retain(|path| !path.ends_with("out"));
     paths.sort();
     paths.into_iter().flat_map(|path| if path.is_dir() { files(&path) } else { vec![path] }).collect()
 }
@@ -56,9 +57,9 @@ pub fn quotations(comment: &str) -> Vec<String> {
     plain.split('"').skip(1).step_by(2).map(|text| text.replace('\u{1}', "\"")).collect()
 }
 
-/// The words of a text that could be names: runs of letters, digits, `_` and `·`, and antt's other letters. A field, behind its point, is none.
+/// The words of a text that could be names: runs of letters, digits, `_` and `'`, and antt's other letters. A field, behind its point, is none.
 pub fn names(text: &str) -> Vec<&str> {
-    let inside = |c: char| c.is_alphanumeric() || matches!(c, '_' | '·' | '′' | '.');
+    let inside = |c: char| c.is_alphanumeric() || matches!(c, '_' | '\'' | '.');
     let words = text.split(|c: char| !inside(c)).filter_map(|word| word.split('.').next());
     words.filter(|word| word.chars().next().is_some_and(char::is_alphabetic)).collect()
 }
@@ -124,7 +125,7 @@ pub fn defines(file: &Path, name: &str) -> bool {
     let begins = |line: &str, heads: &[&str]| {
         heads.iter().any(|head| {
             let rest = line.trim_start().strip_prefix(head).and_then(|rest| rest.strip_prefix(name));
-            rest.is_some_and(|rest| !rest.starts_with(|c: char| c.is_alphanumeric() || matches!(c, '_' | '-' | '′')))
+            rest.is_some_and(|rest| !rest.starts_with(|c: char| c.is_alphanumeric() || matches!(c, '_' | '-' | '\'')))
         })
     };
     let antt = ["", "pub ", "unfoldable ", "unfoldable pub ", "abbrev ", "abbrev pub ", "pub record ", "pub data "];
@@ -159,22 +160,20 @@ fn is_example(word: &str) -> bool {
     word.starts_with("..") || patterns.iter().any(|pattern| word.contains(pattern))
 }
 
-/// The lines of crates.txt: a crate and those that it depends on.
+/// The lines of crates.txt: a crate and those that it depends on. Between its name and the colon may stand what kind it is.
 pub fn listed_crates() -> BTreeMap<String, BTreeSet<String>> {
     let text = read(&repository().join("crates.txt"));
     let lines = text.lines().filter(|line| !line.starts_with('#')).filter_map(|line| line.split_once(':'));
-    lines.map(|(name, others)| (name.to_string(), others.split_whitespace().map(str::to_string).collect())).collect()
+    let words = |text: &str| text.split_whitespace().map(str::to_string).collect::<Vec<_>>();
+    lines.map(|(head, others)| (words(head).swap_remove(0), words(others).into_iter().collect())).collect()
 }
 
-/// The crates among `known` that a crate's files name: `Rattle·NAME` in statements and proofs, `NAME::` in code.
+/// The crates among `known` that a crate's files name: `Rattle.NAME` in statements and proofs, `NAME::` in code.
 pub fn named_crates(name: &str, known: &BTreeSet<String>) -> BTreeSet<String> {
     let folder = repository().join("crates").join(name);
     let sources = ["src", "specs", "proofs"].iter().flat_map(|part| files(&folder.join(part)));
     let text: String = sources.map(|path| read(&path)).collect();
-    let is_named = |other: &str| {
-        ["Rattle·NAME.", "Rattle·NAME·", "use NAME::", " NAME::"]
-            .iter()
-            .any(|form| text.contains(&form.replace("NAME", other)))
-    };
+    let is_named =
+        |other: &str| ["Rattle.NAME.", " NAME::"].iter().any(|form| text.contains(&form.replace("NAME", other)));
     known.iter().filter(|other| *other != name && is_named(other)).cloned().collect()
 }

@@ -1,8 +1,8 @@
 //! See the library: what is written beside the code is true of it.
 
 use papers::*;
-use std::collections::BTreeSet;
-use std::path::Path;
+use std::collections::{BTreeMap, BTreeSet};
+use std::path::{Path, PathBuf};
 
 /// Document 01 on one line; where the papers are not at hand, a line that says so.
 fn scope() -> Option<String> {
@@ -94,24 +94,43 @@ fn every_difference_has_its_input() {
     assert_eq!(text.matches("*When the chart runs:*").count(), entries.len());
 }
 
-/// The crate's folder and each replacement of its edits.
-fn edits() -> Vec<(String, Replacement)> {
+/// Each edit that must fail, or must not compile.
+fn edit_files() -> Vec<PathBuf> {
     let all = files(&repository().join("crates"));
-    let edits = all.iter().filter(|path| path.parent().is_some_and(|folder| folder.ends_with("must-fail")));
+    let holds_edits = |folder: &Path| folder.ends_with("must-fail") || folder.ends_with("must-not-compile");
+    all.into_iter().filter(|path| path.parent().is_some_and(holds_edits)).collect()
+}
+
+/// The crate's folder and each replacement of its edits that must fail.
+fn edits() -> Vec<(String, Replacement)> {
+    let edits =
+        edit_files().into_iter().filter(|path| path.parent().is_some_and(|folder| folder.ends_with("must-fail")));
     let parts = edits.flat_map(|path| {
         let crate_folder = path.ancestors().nth(2).expect("a crate").display().to_string();
-        replacements(&read(path)).into_iter().map(move |part| (crate_folder.clone(), part))
+        replacements(&read(&path)).into_iter().map(move |part| (crate_folder.clone(), part))
     });
     parts.collect()
 }
 
-/// An edit whose text is no longer in its file tries nothing; `rt ci` would say so, but only at the end.
+/// An edit whose text is no longer in its file, or stands there twice, tries nothing; `rt ci` would say so, but only at
+/// the end. A replacement applies to what the earlier ones of its edit made.
 #[test]
 fn edits_find_what_they_replace() {
-    for (folder, part) in edits() {
-        let source = read(&Path::new(&folder).join(&part.file));
-        assert!(source.contains(&part.old), "{folder}: {}: not in {}", part.old, part.file);
+    let mut wrong = Vec::new();
+    for path in edit_files() {
+        let folder = path.ancestors().nth(2).expect("a crate");
+        let (edit, mut texts) = (replacements(&read(&path)), BTreeMap::new());
+        assert!(!edit.is_empty(), "{} replaces nothing", path.display());
+        for part in edit {
+            let text = texts.entry(part.file.clone()).or_insert_with(|| read(&folder.join(&part.file)));
+            let count = text.matches(&part.old).count();
+            if count != 1 {
+                wrong.push(format!("{}: {count} times in {}: {}", path.display(), part.file, part.old));
+            }
+            *text = text.replace(&part.old, &part.new);
+        }
     }
+    assert!(wrong.is_empty(), "{}", wrong.join("\n"));
 }
 
 /// An edit that brings a name that its file does not know is refused for that, whatever the contract says. Codes and columns are known by their type.
@@ -159,8 +178,7 @@ fn every_sentence_cites_what_is_there() {
 #[test]
 fn crates_depend_on_what_they_name() {
     let crates = listed_crates();
-    let kit = ["io", "libc", "os"].map(str::to_string);
-    let known: BTreeSet<String> = crates.keys().cloned().chain(kit).collect();
+    let known: BTreeSet<String> = crates.keys().cloned().collect();
     for (name, listed) in &crates {
         let mut needed = named_crates(name, &known);
         for other in needed.clone() {
