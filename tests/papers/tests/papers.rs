@@ -174,16 +174,12 @@ fn every_sentence_cites_what_is_there() {
     assert!(wrong.is_empty(), "{}", wrong.join("\n"));
 }
 
-/// crates.txt: each crate with those that its files name and those that these depend on, and no other, since `rt` proves a crate after all that it lists.
+/// crates.txt: each crate with those that its files name, and no other: `rt` finds those that these depend on, and takes the longer the more are listed.
 #[test]
 fn crates_depend_on_what_they_name() {
     let crates = listed_crates();
     let known: BTreeSet<String> = crates.keys().cloned().collect();
     for (name, listed) in &crates {
-        let mut needed = named_crates(name, &known);
-        for other in needed.clone() {
-            needed.extend(crates.get(&other).into_iter().flatten().cloned());
-        }
-        assert_eq!(*listed, needed, "crates.txt: {name}");
+        assert_eq!(*listed, named_crates(name, &known), "crates.txt: {name}");
     }
 }
