@@ -133,6 +133,12 @@ fn edits_find_what_they_replace() {
     assert!(wrong.is_empty(), "{}", wrong.join("\n"));
 }
 
+/// Without the names of goals and of what is known at them, which `rt` makes of the code: an edit of a condition changes them in the proof as well.
+fn without_goals(answer: &str) -> String {
+    let made = |word: &&str| word.contains('-') || word.trim_start_matches('(').starts_with("c.");
+    answer.split_whitespace().filter(|word| !made(word)).collect::<Vec<_>>().join(" ")
+}
+
 /// An edit that brings a name that its file does not know is refused for that, whatever the contract says. Codes and columns are known by their type.
 #[test]
 fn edits_use_names_in_scope() {
@@ -141,6 +147,7 @@ fn edits_use_names_in_scope() {
         let source = read(&Path::new(&folder).join(&part.file));
         let known: Vec<&str> = shared.iter().chain([&source]).flat_map(|text| names(text)).collect();
         let code: String = part.new.split('"').step_by(2).collect::<Vec<_>>().join("\"");
+        let code = if part.file.ends_with("Answers.antt") { without_goals(&code) } else { code };
         for name in names(&code) {
             assert!(known.contains(&name), "{folder}: {}: the file does not know {name}", part.new);
         }
