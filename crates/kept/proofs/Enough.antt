@@ -10,6 +10,7 @@ use Rattle.definition.specs.Rows.{Row, Table, free, num, columns_of, row_of, Num
 use Rattle.definition.specs.Actions.{last_with, last_entry, no_if, else_walk}
 use Rattle.definition.specs.Rules.{chosen, has_own_number}
 use Rattle.kept.specs.Statements.{StepsEnough}
+use Rattle.kept.proofs.StepCount.{step_count}
 use Rattle.kept.proofs.Base.{eq_of, neq_of, test}
 use Rattle.kept.proofs.Classes.{Fits, Nums, HasRow}
 use Rattle.kept.proofs.Grow.{Absent, own_from}
@@ -88,7 +89,7 @@ walk_none (suc f) n r e = rw (e, else_walk)
 
 module _ (u : ℕ) (n : Numbers) (S : Sound u n.tables n.tables n.ids n.docs) where
   abbrev steps : ℕ
-  steps = length (table_of n 3)
+  steps = step_count n
 
   abbrev last_one : ℕ → Row
   last_one r = row_of (table_of n 4) (last_entry n r)

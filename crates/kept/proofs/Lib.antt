@@ -36,4 +36,5 @@ pub mod Sizes
 pub mod LookOk
 pub mod RulesKept
 pub mod Lending
+pub mod StepCount
 pub mod Enough
