@@ -1,7 +1,7 @@
 #!/usr/bin/env python3
 """Spells this repository's own definitions and lemmas as today's Rattle does: words in snake case, types and modules in camel case.
 
-usage: python3 tools/respell.py          at the top of the repository, once, after /opt/rattle/port/port.py
+usage: python3 tools/respell.py          at the top of the repository, once, after port.py of the kit
        python3 tools/respell.py --plan   the names only, old and new, and those that would fall together
 
 It renames what the files of specs/ and the lemma files of proofs/ declare (no functions, fields or types of src/), wherever the name stands: in .antt files,
