@@ -5,7 +5,8 @@ usage: python3 tools/respell.py          at the top of the repository, once, aft
        python3 tools/respell.py --plan   the names only, old and new, and those that would fall together
 
 It renames what the files of specs/ and the lemma files of proofs/ declare (no functions, fields or types of src/), wherever the name stands: in .antt files,
-in the clauses of .rt files and in must-fail edits. A name that would meet another one gets a word more (MEETS).
+in the clauses of .rt files and in must-fail edits. Where a lemma would have its
+definition's name, the lemma gets `_lem`.
 """
 
 import os
@@ -15,11 +16,6 @@ import sys
 WORD = r"[^\s(){}.;,@\"«»`]+"
 TOKEN = re.compile(WORD)
 DECLARED = re.compile(r"^ *(?:(?:unfoldable|abbrev|mutual|pub|private) )*(?:(data|record|module) )?(" + WORD + r")(?: [({].*[)}])? : ")
-CONSTRUCTOR = re.compile(r"^ *\| (" + WORD + r")(?: [({].*[)}])?(?: :|$| )")
-
-# Names that would meet another one: the old name, and what it is called now.
-MEETS = {
-}
 
 # Constructors, several of which are declared on one line.
 CONSTRUCTORS = "docId noIf tooMany openTag overCharged nameTwice numberTwice openBlocks currentRegion isOne inInitial".split()
@@ -73,8 +69,6 @@ def snake(part):
 def respelled(name):
     if name in FACTS:
         return FACTS[name]
-    if name in MEETS:
-        return MEETS[name]
     if name[:1].isupper() or not re.search(r"[a-zA-Z]", name):
         parts = name.split("-")
         return "-".join(parts[:1] + [snake(p) for p in parts[1:]])
@@ -98,8 +92,6 @@ def spelling(root):
                 new[o] = name + "_lem"
         if words and name in names:
             new[name] = name + "_lem"
-    for old, name in MEETS.items():
-        new[old] = name
     return new
 
 

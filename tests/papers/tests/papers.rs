@@ -135,8 +135,10 @@ fn edits_find_what_they_replace() {
 
 /// Without the names of goals and of what is known at them, which `rt` makes of the code: an edit of a condition changes them in the proof as well.
 fn without_goals(answer: &str) -> String {
-    let made = |word: &&str| word.contains('-') || word.trim_start_matches('(').starts_with("c.");
-    answer.split_whitespace().filter(|word| !made(word)).collect::<Vec<_>>().join(" ")
+    let mut words = answer.trim_start_matches("pub ").split_whitespace();
+    words.next();
+    let is_made = |word: &&str| ["c.", "goal."].iter().any(|head| word.trim_start_matches('(').starts_with(head));
+    words.filter(|word| !is_made(word)).collect::<Vec<_>>().join(" ")
 }
 
 /// An edit that brings a name that its file does not know is refused for that, whatever the contract says. Codes and columns are known by their type.
@@ -152,6 +154,30 @@ fn edits_use_names_in_scope() {
             assert!(known.contains(&name), "{folder}: {}: the file does not know {name}", part.new);
         }
     }
+}
+
+/// Those that turn a condition whose goals are named after a call or a loop, and so keep their names.
+const NAMED_OTHERWISE: [&str; 4] = [
+    "marks/must-fail/code_name_not_compared.edit",
+    "plain/must-fail/code_not_first.edit",
+    "text/must-fail/late_misspelled.edit",
+    "written/must-fail/exact_fit_refused.edit",
+];
+
+/// A goal is named after the condition before it. An edit that turns one and leaves the proof as it is would be refused for a goal that is not there.
+#[test]
+fn edits_of_conditions_bring_their_proofs() {
+    let turns = |part: &Replacement| ["if ", "while ", "=>"].iter().any(|word| part.old.contains(word));
+    let mut others = Vec::new();
+    for path in edit_files().iter().filter(|path| path.parent().is_some_and(|folder| folder.ends_with("must-fail"))) {
+        let parts = replacements(&read(path));
+        let in_code = parts.iter().any(|part| part.file.starts_with("src/") && turns(part));
+        if in_code && !parts.iter().any(|part| part.file.starts_with("proofs/")) {
+            others.push(path.strip_prefix(repository().join("crates")).expect("below crates").display().to_string());
+        }
+    }
+    others.sort();
+    assert_eq!(others, NAMED_OTHERWISE);
 }
 
 /// An added or lost operation moves the places that a proof names: it is refused for that.
