@@ -128,12 +128,19 @@ fn limits_are_the_definitions() {
     assert_eq!(limits["DRAWN"], header["CHART_DRAWN"]);
 }
 
+/// The proved code's kinds of row, from numbers: `1 => Ok(RowKind::State),`.
+fn kinds(source: &str) -> Numbers {
+    let arms = source.lines().filter_map(|line| line.trim().strip_suffix("),")?.split_once(" => Ok(RowKind::"));
+    arms.filter_map(|(number, name)| Some((name.to_uppercase(), number.parse().ok()?))).collect()
+}
+
 #[test]
 fn kinds_and_widths_are_the_readings() {
-    let (reading, header) = (constants(&read("crates/reading/src/lib.rt")), header());
+    let source = read("crates/reading/src/lib.rt");
+    let (reading, kinds, header) = (constants(&source), kinds(&source), header());
     for (place, kind) in host::Kind::ALL.into_iter().enumerate() {
         let name = format!("{kind:?}").to_uppercase();
-        assert_eq!((kind as usize, reading[&name], header[&format!("CHART_{name}")]), (place, place, place));
+        assert_eq!((kind as usize, kinds[&name], header[&format!("CHART_{name}")]), (place, place, place));
     }
     assert_eq!((reading["WIDTH"], header["CHART_ROW_COLUMNS"]), (host::ROW_COLUMNS, host::ROW_COLUMNS));
     assert_eq!(reading["BYTES"], header["CHART_ROW_BYTES"]);

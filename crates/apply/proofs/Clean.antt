@@ -18,7 +18,8 @@ use Rattle.entries.proofs.Clean.{chart_clean, states_clean, transitions_clean, e
 use Rattle.tables.proofs.Clean.{regions_clean}
 use Rattle.tables.proofs.Clean.{two_over, opened_clean, names_clean, open_regions_clean}
 use Rattle.definition.specs.declared.Position.{Position}
-use Rattle.apply.specs.Applied.{tables_of, applied_in}
+use Rattle.rows.specs.Lent.{tables}
+use Rattle.apply.specs.Applied.{applied_in}
 use Rattle.apply.proofs.Laws.{joined}
 
 -- The members in use, with the event's words and targets.
@@ -57,7 +58,7 @@ module _ (l : Look) (p : Plan) (n : Position) (m count used pending : ℕ) (a b 
 
   pub applied_clean : N.tables ≡ used_rows → Fits l p n m count used pending a b c d e f i j ms o q r
       → applied_in (texts_of l.base l.fields) l.tag m l.name_length l.name n p a b c d e f i j (over (listed l p used ms) ms) o q r
-      ≡ over_all (applied m l p N).tables (tables_of a b c d e f i j ms o q r)
+      ≡ over_all (applied m l p N).tables (tables a b c d e f i j ms o q r)
   unfolding applied_in applied over_all chart_in states_in members_after
   applied_clean z F =
       let two = two_over p.members.one p.members.two n.members (listed l p used ms) ms (sym F.listed_members) (omega (arith, F.listed_members, F.members)) in
@@ -74,4 +75,4 @@ module _ (l : Look) (p : Plan) (n : Position) (m count used pending : ℕ) (a b 
       (opened_clean m n.opened l p.opened o F.opened.0 F.opened.1)
       (names_clean m n.opened l q F.names.0 F.names.1)
       (open_regions_clean p.pending pending r F.kept.0 F.kept.1 F.pushed)
-      ∙ ap (λ (ts : List Table). over_all (applied m l p (record { tables = ts; current = N.current; ids = N.ids; docs = N.docs; names = N.names; charge = N.charge })).tables (tables_of a b c d e f i j ms o q r)) (sym z)
+      ∙ ap (λ (ts : List Table). over_all (applied m l p (record { tables = ts; current = N.current; ids = N.ids; docs = N.docs; names = N.names; charge = N.charge })).tables (tables a b c d e f i j ms o q r)) (sym z)

@@ -7,10 +7,9 @@ use Rattle.entries.specs.Whole.{chart_row, state_row_by, transitions_in, entries
 use Rattle.tables.specs.Whole.{regions_in}
 use Rattle.tables.specs.Whole.{after, member_in, open_row_in, opened_row, open_regions_in}
 use Rattle.definition.specs.declared.Position.{Position}
-
--- The twelve tables, in the order of their numbers.
-abbrev pub tables_of : Table → Table → Table → Table → Table → Table → Table → Table → Table → Table → Table → Table → List Table
-tables_of a b c d e f g h i j k l = a ∷ b ∷ c ∷ d ∷ e ∷ f ∷ g ∷ h ∷ i ∷ j ∷ k ∷ l ∷ []
+use Rattle.definition.specs.Reader as R
+use Rattle.rows.specs.Lent.{lent}
+use Rattle.rows.specs.declared.lent.Lent.{Lent}
 
 -- The position where one row may come; m: the members in use, when the event's words and targets are written.
 abbrev pub rows_of : Position → ℕ → Position
@@ -50,3 +49,9 @@ applied_in t g m s name n p a b c d e f i j k o q r =
     ∷ open_row_in m n.opened q name
     ∷ open_regions_in p.pending r
     ∷ []
+
+-- The same of all that is lent; the text stays.
+abbrev pub applied_to : List ℕ → ℕ → ℕ → ℕ → Row → Position → Plan → Lent → R.Lent
+applied_to t g m s name n p x =
+    lent (applied_in t g m s name n p x.chart.now x.states.now x.transitions.now x.regions.now x.entries.now x.invokes.now x.datums.now x.parameters.now x.members.now x.opened.now x.open_names.now x.open_regions.now)
+    x.text.now

@@ -28,55 +28,48 @@ parts_length v n =
     payload_append (v.values ++ text_loads v.tag v.text) (name_loads (made_in v) (suc n))
     ∙ ap (λ (k : ℕ). k + length (payload (name_loads (made_in v) (suc n)))) (payload_append v.values (text_loads v.tag v.text))
 
-room_to : (st ms ms' : Table) (a a' : List ℕ) (c c' n n' k : ℕ) (ps ps' : List Piece) → ms ≡ ms' → a ≡ a' → c ≡ c' → n ≡ n' → ps ≡ ps' → NameRoom st ms a c n k ps → NameRoom st ms' a' c' n' k ps'
-room_to st ms ms' a a' c c' n n' k ps ps' em ea ec en ep R =
-    subst (λ (x : Table). NameRoom st x a' c' n' k ps') em (
-    subst (λ (x : List ℕ). NameRoom st ms x c' n' k ps') ea (
-    subst (λ (x : ℕ). NameRoom st ms a x n' k ps') ec (subst (λ (x : ℕ). NameRoom st ms a c x k ps') en (subst (λ (x : List Piece). NameRoom st ms a c n k x) ep R))))
+room_to : (st ms ms' : Table) (a a' : List ℕ) (c n n' k : ℕ) (ps ps' : List Piece) → ms ≡ ms' → a ≡ a' → n ≡ n' → ps ≡ ps' → NameRoom st ms a c n k ps → NameRoom st ms' a' c n' k ps'
+room_to st ms ms' a a' c n n' k ps ps' em ea en ep R = rw (← em, ← ea, ← en, ← ep) R
 
-written_to : (st ms ms' : Table) (a a' : List ℕ) (c c' n n' o k : ℕ) (ps ps' : List Piece) (st' ms'' : Table) (i j : ℕ) → ms ≡ ms' → a ≡ a' → c ≡ c' → n ≡ n' → ps ≡ ps'
-    → NamesWritten st ms a c n o k ps st' ms'' i j → NamesWritten st ms' a' c' n' o k ps' st' ms'' i j
-written_to st ms ms' a a' c c' n n' o k ps ps' st' ms'' i j em ea ec en ep W =
-    subst (λ (x : Table). NamesWritten st x a' c' n' o k ps' st' ms'' i j) em (
-    subst (λ (x : List ℕ). NamesWritten st ms x c' n' o k ps' st' ms'' i j) ea (
-    subst (λ (x : ℕ). NamesWritten st ms a x n' o k ps' st' ms'' i j) ec (
-    subst (λ (x : ℕ). NamesWritten st ms a c x o k ps' st' ms'' i j) en (subst (λ (x : List Piece). NamesWritten st ms a c n o k x st' ms'' i j) ep W))))
+written_to : (st ms ms' : Table) (a a' : List ℕ) (c n n' o k : ℕ) (ps ps' : List Piece) (st' ms'' : Table) (i j : ℕ) → ms ≡ ms' → a ≡ a' → n ≡ n' → ps ≡ ps'
+    → NamesWritten st ms a c n o k ps st' ms'' i j → NamesWritten st ms' a' c n' o k ps' st' ms'' i j
+written_to st ms ms' a a' c n n' o k ps ps' st' ms'' i j em ea en ep W = rw (← em, ← ea, ← en, ← ep) W
 
-module _ (p : Position) (v : Parsed) (st ms : Table) (tx : List ℕ) (made : Bool) (m : MembersPlan) (S : Storable p v st ms tx made m) where
+module _ {p : Position} {v : Parsed} {st ms : Table} {tx : List ℕ} {made : Bool} {m : MembersPlan} (S : Storable p v st ms tx made m) where
   abbrev n : ℕ
   n = p.names
 
-  module _ (base : ℕ) (eb : base ≡ p.used) (e : Ends) (ee : e ≡ ends_in base v n) (tx' : List ℕ) (ex : tx' ≡ laid tx base (payload_in v n)) where
+  module _ {e : Ends} (ee : e ≡ ends_in p.used v n) {tx' : List ℕ} (ex : tx' ≡ laid tx p.used (payload_in v n)) where
     end_is : e.all ≡ p.used + length (payload_in v n)
     unfolding ends_in
     end_is =
-        let a : e.all ≡ base + length (payload v.values) + length (payload (text_loads v.tag v.text)) + length (payload (name_loads (made_in v) (suc n))) = ap (λ (x : Ends). x.all) ee in
-        omega (arith, a, eb, parts_length v n)
+        let a : e.all ≡ p.used + length (payload v.values) + length (payload (text_loads v.tag v.text)) + length (payload (name_loads (made_in v) (suc n))) = ap (λ (x : Ends). x.all) ee in
+        omega (arith, a, parts_length v n)
 
-    pub ended : Ended base v e
+    pub ended : Ended p.used v e
     unfolding ends_in
     ended =
-        let a : e.all ≡ base + length (payload v.values) + length (payload (text_loads v.tag v.text)) + length (payload (name_loads (made_in v) (suc n))) = ap (λ (x : Ends). x.all) ee in
-        let b : e.text ≡ base + length (payload v.values) + length (payload (text_loads v.tag v.text)) = ap (λ (x : Ends). x.text) ee in
-        let c : e.values ≡ base + length (payload v.values) = ap (λ (x : Ends). x.values) ee in
+        let a : e.all ≡ p.used + length (payload v.values) + length (payload (text_loads v.tag v.text)) + length (payload (name_loads (made_in v) (suc n))) = ap (λ (x : Ends). x.all) ee in
+        let b : e.text ≡ p.used + length (payload v.values) + length (payload (text_loads v.tag v.text)) = ap (λ (x : Ends). x.text) ee in
+        let c : e.values ≡ p.used + length (payload v.values) = ap (λ (x : Ends). x.values) ee in
         record { values = c; text = omega (arith, b, c); made = omega (arith, a, b); small = omega (arith, end_is, S.small) }
 
-    module _ (a : List ℕ) (ea : a ≡ take e.all tx') where
+    module _ {a : List ℕ} (ea : a ≡ take e.all tx') where
       arena_is : a ≡ arena p v tx
       unfolding laid
       arena_is =
           let u : p.used ≤ length tx = omega (arith, S.room) in
           let l : length (take p.used tx ++ payload_in v n) ≡ p.used + length (payload_in v n) = length-append (take p.used tx) (payload_in v n) ∙ ap (λ (k : ℕ). k + length (payload_in v n)) (length-take-le p.used tx u) in
-          ea ∙ ap₂ take end_is (ex ∙ ap (λ (k : ℕ). laid tx k (payload_in v n)) eb)
+          ea ∙ ap₂ take end_is ex
           ∙ ap (take (p.used + length (payload_in v n))) (sym (append_assoc (take p.used tx) (payload_in v n) (drop (p.used + length (payload_in v n)) tx)))
           ∙ take_at (take p.used tx ++ payload_in v n) (drop (p.used + length (payload_in v n)) tx) (p.used + length (payload_in v n)) l
 
       pub arena_short : length a ≤ 65535
       arena_short = omega (arith, ap length ea, length-take e.all tx', end_is, S.small)
 
-      module _ (t : List ℕ) (et : Texts base v made e t) where
+      module _ {t : List ℕ} (et : Texts p.used v made e t) where
         texts_are : t ≡ event_texts p.used n v
-        texts_are = et n S.generated ee ∙ ap (λ (b : ℕ). event_texts b n v) eb
+        texts_are = et n S.generated ee
 
         abbrev rows : List Row
         rows = word_rows_of v.tag a t m.words
@@ -87,26 +80,26 @@ module _ (p : Position) (v : Parsed) (st ms : Table) (tx : List ℕ) (made : Boo
         pieces_are : pieces_in v.kind v.tag a t ≡ pieces_in v.kind v.tag (arena p v tx) (event_texts p.used n v)
         pieces_are = ap₂ (pieces_in v.kind v.tag) arena_is texts_are
 
-        module _ (first count next : ℕ) (ef : first ≡ p.members) (ec : count ≡ p.states) (en : next ≡ first + length rows) (ms₁ : Table) (em : ms₁ ≡ set_all ms first rows) where
+        module _ {next : ℕ} (en : next ≡ p.members + length rows) {ms₁ : Table} (em : ms₁ ≡ set_all ms p.members rows) where
           members_are : ms₁ ≡ set_all ms p.members (word_rows_of v.tag (arena p v tx) (event_texts p.used n v) m.words)
-          members_are = em ∙ ap₂ (set_all ms) ef rows_are
+          members_are = em ∙ ap (set_all ms p.members) rows_are
 
           next_is : next ≡ p.members + length (word_rows_of v.tag (arena p v tx) (event_texts p.used n v) m.words)
-          next_is = en ∙ ap₂ (λ (k : ℕ) (rs : List Row). k + length rs) ef rows_are
+          next_is = en ∙ ap (λ (rs : List Row). p.members + length rs) rows_are
 
-          pub names_asked : NameRoom st ms₁ a count next (skip_of v.kind v.tag) (pieces_in v.kind v.tag a t) × (OwnIn v.kind v.tag a t × TargetsIn a t)
+          pub names_asked : NameRoom st ms₁ a p.states next (skip_of v.kind v.tag) (pieces_in v.kind v.tag a t) × (OwnIn v.kind v.tag a t × TargetsIn a t)
           names_asked = (
-            room_to st _ ms₁ (arena p v tx) a p.states count _ next (skip_of v.kind v.tag) _ (pieces_in v.kind v.tag a t) (sym members_are) (sym arena_is) (sym ec) (sym next_is) (sym pieces_are) S.names,
+            room_to st _ ms₁ (arena p v tx) a p.states _ next (skip_of v.kind v.tag) _ (pieces_in v.kind v.tag a t) (sym members_are) (sym arena_is) (sym next_is) (sym pieces_are) S.names,
             subst (λ (x : List ℕ). OwnIn v.kind v.tag x t × TargetsIn x t) (sym arena_is) (subst (λ (x : List ℕ). OwnIn v.kind v.tag (arena p v tx) x × TargetsIn (arena p v tx) x) (sym texts_are) (S.own, S.targets)),
           )
 
-          pub all_stored : (st' ms' : Table) (i j : ℕ) → NamesWritten st ms₁ a count next m.owner (skip_of v.kind v.tag) (pieces_in v.kind v.tag a t) st' ms' i j
+          pub all_stored : {st' ms' : Table} {i j : ℕ} → NamesWritten st ms₁ a p.states next m.owner (skip_of v.kind v.tag) (pieces_in v.kind v.tag a t) st' ms' i j
               → Stored p v st ms tx m st' ms' tx' t (record { states = i; members = j; used = e.all })
-          all_stored st' ms' i j W =
+          all_stored {st'} {ms'} {i} {j} W =
               record {
-                text = ex ∙ ap (λ (k : ℕ). laid tx k (payload_in v n)) eb;
+                text = ex;
                 used = end_is;
                 by_key_lem = texts_are;
                 names =
-                    written_to st ms₁ _ a (arena p v tx) count p.states next _ m.owner (skip_of v.kind v.tag) (pieces_in v.kind v.tag a t) _ st' ms' i j members_are arena_is ec next_is pieces_are W;
+                    written_to st ms₁ _ a (arena p v tx) p.states next _ m.owner (skip_of v.kind v.tag) (pieces_in v.kind v.tag a t) _ st' ms' i j members_are arena_is next_is pieces_are W;
               }

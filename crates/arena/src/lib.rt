@@ -10,7 +10,7 @@ use definition::Position;
 use payload::append_event;
 use plain::Plain;
 use plan::MembersPlan;
-use rows::{index, leading};
+use rows::leading;
 use targets::write_names;
 use texts::texts_of;
 use wordlists::write_words;
@@ -38,23 +38,24 @@ pub fn write_texts(
     requires { (t.old ≡ replicate 64 0) × Storable p (parsed_in src.now pl) states.old members.old text.old made m }
     ensures { Stored p (parsed_in src.now pl) states.old members.old text.old m states.new members.new text.new t.new result }
 {
-    let base = index(p.used);
-    let e = append_event(text, base, src, pl, made, p.names);
-    texts_of(t, src, pl, base, made, e);
-    let used = e.all;
-    let words = m.words;
-    let arena = leading(text, used);
-    let first = index(p.members);
-    let count = index(p.states);
-    let next = write_words(members, first, arena, t, pl.tag, words);
-    let r = write_names(
-        states, members, arena, count, next, t, pl.kind, pl.tag, m.owner,
+    let e = append_event(text, p.used as usize, src, pl, made, p.names);
+    texts_of(t, src, pl, p.used as usize, made, e);
+    let arena = leading(text, e.all);
+    let next = write_words(members, p.members as usize, arena, t, pl.tag, m.words);
+    let named = write_names(
+        states,
+        members,
+        arena,
+        p.states as usize,
+        next,
+        t,
+        pl.kind,
+        pl.tag,
+        m.owner,
     );
-    let named = r.states;
-    let listed = r.members;
     Written {
-        states: named,
-        members: listed,
-        used: used,
+        states: named.states,
+        members: named.members,
+        used: e.all,
     }
 }

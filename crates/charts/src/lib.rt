@@ -10,11 +10,11 @@ ghost use Rattle.entries.specs.Whole.{rooted_by, chart_row, state_row_by, new_tr
 
 use definition::cells::{ChartColumn, StateColumn, TransitionColumn};
 use entries::{fill_plus, put_plus};
-use fill::{fill, put};
+use fill::fill;
 use plan::{ChartPlan, StatePlan, TransitionPlan};
-use rows::index;
-use tables::put_8;
+use rows::{alter, put};
 
+#[tactic(auto, unfolding(entries::specs::Whole::new_transition))]
 fn transition_row(p: TransitionPlan, tag: u32, t: &[u32]) -> [u32; 8]
     ensures { result ≡ new_transition t.now tag p }
 {
@@ -29,39 +29,6 @@ fn transition_row(p: TransitionPlan, tag: u32, t: &[u32]) -> [u32; 8]
     row
 }
 
-fn transition_changed(old: [u32; 8], p: TransitionPlan) -> [u32; 8]
-    ensures { result ≡ set old 5 p.region.0 }
-{
-    let mut row = old;
-    row[TransitionColumn::CONTENT] = p.region.0;
-    row
-}
-
-fn add_transition(transitions: &mut [[u32; 8]], n: usize, p: TransitionPlan, tag: u32, t: &[u32])
-    ensures { transitions.new ≡ set_unless p.number.0 transitions.old n (new_transition t.now tag p) }
-{
-    if p.number.0 == 0 {
-        return;
-    }
-    let row = transition_row(p, tag, t);
-    put_8(transitions, n, row);
-}
-
-fn alter_transition(transitions: &mut [[u32; 8]], p: TransitionPlan)
-    ensures { transitions.new ≡ alter_row p.at (old_transition p) transitions.old }
-{
-    if p.at == 0 {
-        return;
-    }
-    let i = index(p.at - 1);
-    if i < transitions.len() {
-        let old = transitions[i];
-        let row = transition_changed(old, p);
-        transitions[i] = row;
-        return;
-    }
-}
-
 pub fn change_transitions(
     transitions: &mut [[u32; 8]],
     n: usize,
@@ -71,10 +38,22 @@ pub fn change_transitions(
 )
     ensures { transitions.new ≡ transitions_in t.now tag p n transitions.old }
 {
-    add_transition(transitions, n, p, tag, t);
-    alter_transition(transitions, p);
+    if p.number.0 != 0 {
+        put(transitions, n, transition_row(p, tag, t));
+    }
+    alter(
+        transitions,
+        p.at,
+        |mut row: [u32; 8]|
+            ensures { result ≡ set row 5 p.region.0 }
+        {
+            row[TransitionColumn::CONTENT] = p.region.0;
+            row
+        },
+    );
 }
 
+#[tactic(auto, unfolding(plan::specs::After::state_columns_after))]
 fn put_columns(row: &mut [u32], p: StatePlan)
     ensures { row.new ≡ state_columns_after p row.old }
 {
@@ -88,10 +67,10 @@ fn put_columns(row: &mut [u32], p: StatePlan)
     put_plus(row, StateColumn::HAS_CONTENT, p.filled);
 }
 
-fn state_changed(old: [u32; 24], p: StatePlan, tag: u32, t: &[u32]) -> [u32; 24]
-    ensures { result ≡ state_row_by t.now tag p old }
+#[tactic(auto, unfolding(entries::specs::Whole::state_row_by))]
+fn state_changed(mut row: [u32; 24], p: StatePlan, tag: u32, t: &[u32]) -> [u32; 24]
+    ensures { result ≡ state_row_by t.now tag p row }
 {
-    let mut row = old;
     fill_plus(&mut row, tag, p.texts, t);
     put_columns(&mut row, p);
     row
@@ -100,32 +79,29 @@ fn state_changed(old: [u32; 24], p: StatePlan, tag: u32, t: &[u32]) -> [u32; 24]
 pub fn change_states(states: &mut [[u32; 24]], p: StatePlan, tag: u32, t: &[u32])
     ensures { states.new ≡ alter_row p.at.0 (state_row_by t.now tag p) states.old }
 {
-    if p.at.0 == 0 {
-        return;
-    }
-    let i = index(p.at.0 - 1);
-    if i < states.len() {
-        let old = states[i];
-        let row = state_changed(old, p, tag, t);
-        states[i] = row;
-        return;
-    }
+    alter(
+        states,
+        p.at.0,
+        |row|
+            ensures { result ≡ state_row_by t.entry.now tag p row }
+        { state_changed(row, p, tag, t) },
+    );
 }
 
+#[tactic(auto, unfolding(entries::specs::Whole::rooted_by))]
 fn put_root(row: &mut [u32], tag: u32, s: u32, t: &[u32])
     ensures { row.new ≡ rooted_by t.now tag s row.old }
 {
-    if s == 0 {
-        return;
+    if s != 0 {
+        fill(row, tag, 0, t);
+        put(row, ChartColumn::ROOT, s - 1);
     }
-    fill(row, tag, 0, t);
-    put(row, ChartColumn::ROOT, s - 1);
 }
 
-fn chart_changed(old: [u32; 24], p: ChartPlan, tag: u32, t: &[u32]) -> [u32; 24]
-    ensures { result ≡ chart_row t.now tag p old }
+#[tactic(auto, unfolding(entries::specs::Whole::chart_row))]
+fn chart_changed(mut row: [u32; 24], p: ChartPlan, tag: u32, t: &[u32]) -> [u32; 24]
+    ensures { result ≡ chart_row t.now tag p row }
 {
-    let mut row = old;
     put_plus(&mut row, ChartColumn::BINDING, p.binding);
     put_root(&mut row, tag, p.root, t);
     put_plus(&mut row, ChartColumn::SCRIPT, p.script);
@@ -135,14 +111,11 @@ fn chart_changed(old: [u32; 24], p: ChartPlan, tag: u32, t: &[u32]) -> [u32; 24]
 pub fn change_chart(chart: &mut [[u32; 24]], p: ChartPlan, tag: u32, t: &[u32])
     ensures { chart.new ≡ alter_row p.at (chart_row t.now tag p) chart.old }
 {
-    if p.at == 0 {
-        return;
-    }
-    let i = index(p.at - 1);
-    if i < chart.len() {
-        let old = chart[i];
-        let row = chart_changed(old, p, tag, t);
-        chart[i] = row;
-        return;
-    }
+    alter(
+        chart,
+        p.at,
+        |row|
+            ensures { result ≡ chart_row t.entry.now tag p row }
+        { chart_changed(row, p, tag, t) },
+    );
 }

@@ -1,18 +1,17 @@
 -- A row's columns, tested one by one, as one expression.
-use mathlib.Core.Path.{◌≡◌, refl, ap, sym, ◌∙◌}
+use mathlib.Core.Path.{◌≡◌, refl, sym, ◌∙◌}
 use mathlib.Core.Bool.{Bool, true, false, ◌&&◌, ◌||◌, not}
 use mathlib.Core.List.{List, [], ◌∷◌, ◌++◌}
 use Prim.Native.Nat.{ℕ, zero, suc, ◌+◌, ◌-◌, ◌≤◌, ◌<◌}
 use native.Mathlib.Omega.{arith}
 use lib.Dec.{eqb, leb, leb-zero, leb-suc-suc}
-use lib.ListN.{length, get_or, take, drop, drop_of_length-le, get_or-eq_default, replicate}
+use lib.ListN.{length, get_or, drop, drop_of_length-le, replicate}
 use lib.Seq.{drop-cons}
 use Rattle.definition.specs.Rows.{Row, Table, Class, free, own, doc_id, above, mark, len, code, row, existing, text, by, spare, num, Store}
 use native.Mathlib.Numerals.{add-one}
 use borrow.Author.Tests.{ne_eqb, le-leb, lt-leb}
 use Rattle.definition.specs.Elements.{Role}
-use Rattle.definition.specs.Rows.{choices, open_region_columns, invoke_columns}
-use Rattle.columns.specs.Sees.{columns8, columns24, texts_inside, zeros_from}
+use Rattle.columns.specs.Cells.{texts_inside, zeros_from}
 use Rattle.definition.specs.Rules.{is_inside, following, chosen, keeps, columns_keep, rows_keep}
 use Rattle.definition.proofs.Base.{and_true, elim_and}
 
@@ -97,28 +96,6 @@ pub up_to_is : (v n : ℕ) → leb v n ≡ (eqb v 0 || (leb 1 v && leb v n))
 up_to_is zero n = le-leb 0 n (omega arith)
 up_to_is (suc v) n = rw (ne_eqb (suc v) 0 (λ e. omega arith), le-leb 1 (suc v) (omega arith))
 
--- ---- classes that go by a code
-
--- A code in a run of equal classes has that class; past all of them a code is free.
-in_run : (before after : List Class) (n : ℕ) (c : Class) (v : ℕ) → length before ≤ v → v < length before + n → get_or (before ++ (replicate n c ++ after)) v free ≡ c
-in_run [] after zero c v h k = let z : ⊥ = omega arith in absurd z
-in_run [] after (suc n) c zero h k = refl
-in_run [] after (suc n) c (suc v) h k = in_run [] after n c v (omega arith) (omega arith)
-in_run (b ∷ before) after n c zero h k = let z : ⊥ = omega arith in absurd z
-in_run (b ∷ before) after n c (suc v) h k = in_run before after n c v (omega arith) (omega arith)
-
-abbrev class_by : ℕ → ℕ → Class
-class_by h v = get_or (get_or choices h []) v free
-
-pub in_choice : (h from n : ℕ) (c : Class) (v : ℕ) → get_or choices h [] ≡ take from (get_or choices h []) ++ (replicate n c ++ drop (from + n) (get_or choices h [])) → length (take from (get_or choices h [])) ≡ from → from ≤ v → v < from + n → class_by h v ≡ c
-in_choice h from n c v e l p q =
-    let i : length (take from (get_or choices h [])) ≤ v = omega arith in
-    let j : v < length (take from (get_or choices h [])) + n = omega arith in
-    ap (λ (cs : List Class). get_or cs v free) e ∙ in_run (take from (get_or choices h [])) (drop (from + n) (get_or choices h [])) n c v i j
-
-pub past_choice : (h v : ℕ) → length (get_or choices h []) ≤ v → class_by h v ≡ free
-past_choice h v k = get_or-eq_default (get_or choices h []) free k
-
 -- ---- spare columns
 
 pub spare_is : (v : ℕ) → leb v 0 ≡ eqb v 0
@@ -180,24 +157,6 @@ pub rows_end : (s : Store) (cs : List Class) (t : Table) (i : ℕ) → length t 
 unfolding rows_keep
 rows_end s cs t i h = rw (drop_of_length-le t h)
 
--- ---- tables of one width
-
-pub last_of_8 : (w : ℕ) → (w ≡ 0 → ⊥) → (w ≡ 1 → ⊥) → (w ≡ 2 → ⊥) → (w ≡ 3 → ⊥) → (w ≡ 4 → ⊥) → (w ≡ 5 → ⊥) → columns8 w ≡ open_region_columns
-unfolding columns8
-last_of_8 zero n0 n1 n2 n3 n4 n5 = let h : ⊥ = n0 refl in absurd h
-last_of_8 (suc zero) n0 n1 n2 n3 n4 n5 = let h : ⊥ = n1 refl in absurd h
-last_of_8 (suc (suc zero)) n0 n1 n2 n3 n4 n5 = let h : ⊥ = n2 refl in absurd h
-last_of_8 (suc (suc (suc zero))) n0 n1 n2 n3 n4 n5 = let h : ⊥ = n3 refl in absurd h
-last_of_8 (suc (suc (suc (suc zero)))) n0 n1 n2 n3 n4 n5 = let h : ⊥ = n4 refl in absurd h
-last_of_8 (suc (suc (suc (suc (suc zero))))) n0 n1 n2 n3 n4 n5 = let h : ⊥ = n5 refl in absurd h
-last_of_8 (suc (suc (suc (suc (suc (suc w)))))) n0 n1 n2 n3 n4 n5 = refl
-
-pub last_of_24 : (w : ℕ) → (w ≡ 0 → ⊥) → (w ≡ 1 → ⊥) → columns24 w ≡ invoke_columns
-unfolding columns24
-last_of_24 zero n0 n1 = let h : ⊥ = n0 refl in absurd h
-last_of_24 (suc zero) n0 n1 = let h : ⊥ = n1 refl in absurd h
-last_of_24 (suc (suc w)) n0 n1 = refl
-
-pub next_some : (v n : ℕ) → (v ≡ 0 → ⊥) → leb (v - 1) n ≡ leb v (suc n)
-next_some zero n h = let z : ⊥ = h refl in absurd z
-next_some (suc v) n h = let e : suc v - 1 ≡ v = omega arith in rw e (sym (leb-suc-suc v n))
+pub next_is : (v n : ℕ) → leb (v - 1) n ≡ leb v (suc n)
+next_is zero n = leb-zero n ∙ sym (leb-zero (suc n))
+next_is (suc v) n = let e : suc v - 1 ≡ v = omega arith in rw e (sym (leb-suc-suc v n))

@@ -9,7 +9,7 @@ use lib.ListN.{length, get_or}
 use borrow.Author.Tests.{leb-true, leb-false, eq-eqb, ne_eqb, eqb-true, eqb-false}
 use Rattle.definition.specs.Rows.{Table, num}
 use Rattle.definition.specs.Actions.{place_of_number}
-use Rattle.columns.specs.Sees.{Rising, Reaches}
+use Rattle.columns.specs.Rising.{Rising, Reaches}
 
 abbrev pub number_at : Table → ℕ → ℕ
 number_at t j = num (get_or t j []) 0
@@ -63,7 +63,6 @@ module _ (t : Table) (n : ℕ) where
 
   module _ (up : Rising t) (base size : ℕ) (w : Among t n base size) where
     pub among_half : (half r : ℕ) → 1 ≤ half → half + half ≤ size → size ≤ half + half + 1 → Reaches n (number_at t (base + half)) r → Among t n (base + half * r) (size - half)
-    unfolding Rising
     among_half half r l m o f = go (leb (number_at t (base + half)) n) refl
       where
         go : (b : Bool) → leb (number_at t (base + half)) n ≡ b → Among t n (base + half * r) (size - half)

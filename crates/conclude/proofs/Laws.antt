@@ -13,7 +13,7 @@ use Rattle.settle.specs.declared.Settled.{Settled}
 use Rattle.settle.specs.Settled.{replied, Settles}
 use Rattle.conclude.specs.Fed.{given, Answers}
 
-module _ (x : Lent) (p : Position) (v : Parsed) (s : Settled) (S : Settles x p v s) where
+module _ {x : Lent} {p : Position} {v : Parsed} {s : Settled} (S : Settles x p v s) where
   pub is_refused : (s.number ≡ 0 → ⊥) → Answers x p v (given s.number p x)
   unfolding replied answer_of refused
   is_refused r A = at s.number r ∙ ap (answer_of x p) (sym (S.reply A))
@@ -22,9 +22,9 @@ module _ (x : Lent) (p : Position) (v : Parsed) (s : Settled) (S : Settles x p v
       at zero n = absurd (n refl)
       at (suc k) n = refl
 
-  pub is_accepted : (z : s.number ≡ 0) (y : Lent) (u : Position) → Leaves x p v s.plan y u → Answers x p v (given 0 u y)
+  pub is_accepted : (z : s.number ≡ 0) {y : Lent} {u : Position} → Leaves x p v s.plan y u → Answers x p v (given 0 u y)
   unfolding replied answer_of
-  is_accepted z y u W A =
+  is_accepted z {y} {u} W A =
       let R : Ready x p v s.plan s.made s.charge = S.ready A z in
       let l : y ≡ lent_after x (afterwards (store_of x p) A.event s.plan) = W.lent R.accepted ∙ ap (λ (e : Event). lent_after x (afterwards (store_of x p) e s.plan)) (S.same A z) in
       let q : u ≡ position_of (afterwards (store_of x p) A.event s.plan) = W.position R.accepted ∙ ap (λ (e : Event). position_of (afterwards (store_of x p) e s.plan)) (S.same A z) in

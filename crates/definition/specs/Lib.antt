@@ -13,3 +13,4 @@ pub mod Actions
 pub mod Rules
 pub mod Reader
 pub mod Stars
+pub mod Codes

@@ -1,4 +1,4 @@
-// Columns of the tables, by name. A text takes two: its place in the text plus one, and its length.
+// Columns of the tables, by name. A text takes two: its place in the text plus one, and its length. They are numbers, since C lends rows of numbers.
 
 /// The chart's one row.
 #[derive(Clone, Copy)]

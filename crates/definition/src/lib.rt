@@ -93,26 +93,24 @@ impl Chart {
 }
 
 /// A yes as a number.
+#[tactic(auto, unfolding(crate::specs::Look::one_if))]
 pub fn one_if(b: bool) -> u32
     ensures { (result ≡ one_if b) × (result < 2) }
 {
-    if b {
-        return 1;
-    }
-    0
+    u32::from(b)
 }
 
 /// Numbers of rows are three types: one given for another does not compile. To C each is its number.
 #[repr(C)]
-#[derive(Clone, Copy)]
+#[derive(Clone, Copy, Default)]
 pub struct StateId(pub u32);
 
 #[repr(C)]
-#[derive(Clone, Copy)]
+#[derive(Clone, Copy, Default)]
 pub struct TransitionId(pub u32);
 
 #[repr(C)]
-#[derive(Clone, Copy)]
+#[derive(Clone, Copy, Default)]
 pub struct RegionId(pub u32);
 
 /// The reading position, which goes in by value and comes back: how many rows of each table are in use, how many elements and regions are open, the current
@@ -138,6 +136,7 @@ pub struct Position {
     pub charge: u32,
 }
 
+#[tactic(auto, unfolding(crate::specs::Position::one_more))]
 fn one_more(limit: u32, n: u32) -> u32
     ensures { result ≡ one_more limit n }
 {
@@ -147,57 +146,59 @@ fn one_more(limit: u32, n: u32) -> u32
     n
 }
 
-fn one_less(n: u32) -> u32
-    ensures { result ≡ n - 1 }
-{
-    if n == 0 {
-        return 0;
-    }
-    n - 1
-}
-
+// The steps of the counters; each names its field.
 impl Position {
     /// One element more is open.
+    #[tactic(auto, unfolding(crate::specs::Position::pushed_at))]
     pub fn push(self) -> Position
         ensures { result ≡ pushed_at limits01 self }
     {
-        let mut p = self;
-        p.opened = one_more(Chart::OPENED, self.opened);
-        p
+        Position {
+            opened: one_more(Chart::OPENED, self.opened),
+            ..self
+        }
     }
 
     /// The innermost element is closed.
+    #[tactic(auto, unfolding(crate::specs::Position::popped_at))]
     pub fn pop(self) -> Position
         ensures { result ≡ popped_at self }
     {
-        let mut p = self;
-        p.opened = one_less(self.opened);
-        p
+        Position {
+            opened: self.opened.saturating_sub(1),
+            ..self
+        }
     }
 
     /// A number for a transition or a region is drawn: one counter numbers both.
+    #[tactic(auto, unfolding(crate::specs::Position::id_drawn))]
     pub fn draw_id(self) -> Position
         ensures { result ≡ id_drawn limits01 self }
     {
-        let mut p = self;
-        p.ids = one_more(Chart::DRAWN, self.ids);
-        p
+        Position {
+            ids: one_more(Chart::DRAWN, self.ids),
+            ..self
+        }
     }
 
+    #[tactic(auto, unfolding(crate::specs::Position::doc_drawn))]
     pub fn draw_doc(self) -> Position
         ensures { result ≡ doc_drawn limits01 self }
     {
-        let mut p = self;
-        p.docs = one_more(Chart::DRAWN, self.docs);
-        p
+        Position {
+            docs: one_more(Chart::DRAWN, self.docs),
+            ..self
+        }
     }
 
+    #[tactic(auto, unfolding(crate::specs::Position::name_drawn))]
     pub fn draw_name(self) -> Position
         ensures { result ≡ name_drawn limits01 self }
     {
-        let mut p = self;
-        p.names = one_more(Chart::DRAWN, self.names);
-        p
+        Position {
+            names: one_more(Chart::DRAWN, self.names),
+            ..self
+        }
     }
 
     /// The number drawn last, as a transition's.

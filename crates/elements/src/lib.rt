@@ -1,59 +1,63 @@
-// Elements by number: a name by its mark, and one comparison.
+// Elements: a name by its mark, and one comparison.
 
 #![tactic(auto)]
 
-ghost use Rattle.std.specs.Prelude.{◌≡◌};
-ghost use Rattle.definition.specs.Elements.{tag_of};
-ghost use Rattle.marks.specs.Marks.{mark};
+ghost use Rattle.std.specs.Prelude.{◌≡◌, MatchOption, unwrap_or};
+ghost use Rattle.definition.specs.declared.codes.Tag.TheVariants.{Unknown};
+ghost use Rattle.definition.specs.Codes.{tag_number};
+ghost use Rattle.definition.specs.Elements.{tag_of, element_names};
+ghost use Rattle.marks.specs.Marks.{mark, element_marks, NotAny, IsName};
 
+use definition::codes::Tag;
 use marks::{mark_of, only};
 
-// Elements by their marks, in the order of their numbers.
-fn tag_marked(m: u32, name: &[u8]) -> u32
-    requires { m ≡ mark name.now }
-    ensures { result ≡ tag_of name.now }
+// The element of a mark, in the order of their numbers, and its name.
+#[tactic(auto, unfolding(definition::specs::Elements::element_names, definition::specs::Text::str, marks::specs::Marks::mark))]
+fn known(m: u32) -> Option<(&'static [u8], Tag)>
+    ensures { MatchOption result (NotAny m element_marks) (λ p. IsName element_names (tag_number p.1) p.0.now × (mark p.0.now ≡ m)) }
 {
     match m {
-        4 => only(b"scxml", name, 1),
-        114 => only(b"state", name, 2),
-        5 => only(b"parallel", name, 3),
-        6 => only(b"datamodel", name, 4),
-        10 => only(b"final", name, 5),
-        77 => only(b"history", name, 6),
-        17 => only(b"initial", name, 7),
-        109 => only(b"invoke", name, 8),
-        74 => only(b"data", name, 9),
-        92 => only(b"donedata", name, 10),
-        106 => only(b"finalize", name, 11),
-        105 => only(b"else", name, 12),
-        112 => only(b"elseif", name, 13),
-        7 => only(b"param", name, 14),
-        58 => only(b"content", name, 15),
-        34 => only(b"transition", name, 16),
-        82 => only(b"onentry", name, 17),
-        56 => only(b"onexit", name, 18),
-        93 => only(b"send", name, 19),
-        95 => only(b"raise", name, 20),
-        3 => only(b"cancel", name, 21),
-        117 => only(b"log", name, 22),
-        31 => only(b"assign", name, 23),
-        102 => only(b"if", name, 24),
-        126 => only(b"foreach", name, 25),
-        45 => only(b"script", name, 26),
-        110 => only(b"include", name, 27),
-        _ => 0,
+        4 => Some((b"scxml", Tag::Scxml)),
+        114 => Some((b"state", Tag::State)),
+        5 => Some((b"parallel", Tag::Parallel)),
+        6 => Some((b"datamodel", Tag::Datamodel)),
+        10 => Some((b"final", Tag::Final)),
+        77 => Some((b"history", Tag::History)),
+        17 => Some((b"initial", Tag::Initial)),
+        109 => Some((b"invoke", Tag::Invoke)),
+        74 => Some((b"data", Tag::Data)),
+        92 => Some((b"donedata", Tag::Donedata)),
+        106 => Some((b"finalize", Tag::Finalize)),
+        105 => Some((b"else", Tag::Else)),
+        112 => Some((b"elseif", Tag::Elseif)),
+        7 => Some((b"param", Tag::Param)),
+        58 => Some((b"content", Tag::Content)),
+        34 => Some((b"transition", Tag::Transition)),
+        82 => Some((b"onentry", Tag::Onentry)),
+        56 => Some((b"onexit", Tag::Onexit)),
+        93 => Some((b"send", Tag::Send)),
+        95 => Some((b"raise", Tag::Raise)),
+        3 => Some((b"cancel", Tag::Cancel)),
+        117 => Some((b"log", Tag::Log)),
+        31 => Some((b"assign", Tag::Assign)),
+        102 => Some((b"if", Tag::If)),
+        126 => Some((b"foreach", Tag::Foreach)),
+        45 => Some((b"script", Tag::Script)),
+        110 => Some((b"include", Tag::Include)),
+        _ => None,
     }
 }
 
-// An element's number, or 0 where the name is none of them.
-pub fn tag_of(name: &[u8]) -> u32
-    ensures { result ≡ tag_of name.now }
+// The element of a name, if it is one.
+fn found(name: &[u8]) -> Option<Tag>
+    ensures { tag_number (unwrap_or result Unknown) ≡ tag_of name.now }
 {
-    if name.len() < 2 {
-        return 0;
-    }
-    if 11 < name.len() {
-        return 0;
-    }
-    tag_marked(mark_of(name), name)
+    let (word, tag) = known(mark_of(name)?)?;
+    only(word, name, tag)
+}
+
+pub fn tag_of(name: &[u8]) -> Tag
+    ensures { tag_number result ≡ tag_of name.now }
+{
+    found(name).unwrap_or(Tag::Unknown)
 }

@@ -1,27 +1,36 @@
 -- The end of a description.
-use Prim.Native.Nat.{ℕ, zero, suc, ◌-◌, ◌≤◌, ◌<◌}
+use Prim.Native.Nat.{ℕ, zero, suc, ◌≤◌, ◌<◌}
 use mathlib.Core.Path.{◌≡◌, refl, sym, ap, ap₂, ◌∙◌, subst}
 use mathlib.Core.Bool.{Bool, true, false, ◌||◌}
 use mathlib.Core.Option.{Option}
 use mathlib.Core.List.{List}
 use lib.Dec.{eqb}
-use lib.ListN.{length, take, drop}
+use lib.ListN.{length, take}
 use borrow.Author.Tests.{ne_eqb, eqb-false}
 use native.Mathlib.Omega.{arith}
 use Rattle.definition.specs.Elements.{key_of, holds_text}
 use Rattle.definition.specs.Event.{Attribute, read_event}
 use Rattle.definition.proofs.Base.{true_is_false}
 use Rattle.lines.specs.Parts.{or_nothing}
-use Rattle.parts.specs.declared.Pair.{Pair}
+use Rattle.parts.specs.Walked.{Pair}
 use Rattle.walk.specs.Reads.{Pairs, no_pairs_lem, pair}
 use Rattle.walk.proofs.TakenLaw as T
 use Rattle.walk.proofs.TakenLaw.{Taken, taken_law}
 use Rattle.parts.specs.Walked.{Walked}
 use Rattle.lines.specs.Lines.{event_length}
+use Rattle.std.specs.Prelude as std
+use Rattle.std.proofs.Common.{Some, None, Result, Ok, Err, MatchResult}
+use Rattle.std.specs.Result.{is_err}
+use Rattle.std.specs.Option.{is_some, is_none}
+use Rattle.definition.specs.declared.codes.Kind.{Kind}
+use Rattle.definition.specs.declared.codes.Refusal.{Refusal}
+use Rattle.definition.specs.Codes.{kind_code, kind_number, tag_number, refusal_number}
+use Rattle.parts.specs.declared.Part.{Part}
+use Rattle.parts.specs.declared.Pair as code
 use Rattle.parts.specs.declared.Heading.{Heading}
-use Rattle.parts.specs.Parts.{part_at, no_pairs, begun, broken, pairs_of, walked_by, at_most16}
+use Rattle.parts.specs.Parts.{no_pairs, begun, broken, pairs_of, next_of, text_of, made_by, walked_by, at_most16}
 use Rattle.parts.proofs.MostLaws.{take_most}
-use Rattle.parts.proofs.PairLaws.{pairs_length}
+use Rattle.parts.proofs.PairLaws.{pairs_length, pairs_take}
 use Rattle.walk.specs.Walk.{walked}
 use Rattle.walk.specs.Stream.{first_event, settled}
 use Rattle.walk.proofs.WalkLaw.{Stopped, TextReads, walk_no_text, walk_text}
@@ -29,8 +38,7 @@ use Rattle.walk.proofs.StreamLaws.{event_within, settled_out, settled_in}
 use Rattle.walk.proofs.SecondEvent.{second_event}
 use Rattle.event.specs.Description.{Described}
 use Rattle.event.specs.declared.Head.{Head}
-use Rattle.event.specs.declared.Next.{Next}
-use Rattle.event.specs.Described.{Coded, read, blank, described_by, head_of, description_of, shape_fits, in_shape, pair_keys, all_differ, finished, described}
+use Rattle.event.specs.Described.{Coded, read, blank, described_by, told_by, description_of, shape_fits, in_shape, pair_keys, all_differ, finished, described}
 use Rattle.event.proofs.EventLaw.{finish_out, finish_in}
 
 -- ---- the end of a walk
@@ -85,76 +93,95 @@ coded_walk raw w e f = go (taken_law raw)
 
 -- ---- what the code answers
 
-module _ (s raw : List ℕ) (h : Heading) (rs : List (List ℕ)) (ew : walked_by h rs ≡ settled (walked (first_event s))) (er : raw ≡ first_event s) where
-  abbrev w : Walked
-  w = walked_by h rs
+pub no_text_next : (t : std.Option Part) → is_none t ≡ eqb (next_of t) 2
+no_text_next None = refl
+no_text_next (Some p) = refl
 
-  whole : {d : Described} → d ≡ finished raw w → d ≡ described (first_event s)
-  unfolding described
-  whole e = e ∙ ap₂ finished er ew ∙ settled_finished (first_event s) (walked (first_event s))
+pub text_next : (t : std.Option Part) → is_some t ≡ eqb (next_of t) 4
+text_next None = refl
+text_next (Some p) = refl
 
-  module _ (holds : Bool) (eh : holds ≡ holds_text h.tag) {b : Bool} (es : b ≡ shape_fits h.kind h.next h.count holds) where
-    shape_is : in_shape w ≡ b
-    unfolding in_shape walked_by
-    shape_is = sym (es ∙ ap (shape_fits h.kind h.next h.count) eh)
+module _ (raw : List ℕ) (ps : List code.Pair) where
+  -- No heading, and a heading without a kind.
+  pub no_heading : blank 3 ≡ finished raw (walked_by None ps)
+  unfolding walked_by
+  no_heading = sym (stopped_out raw (walked_by None ps) ((λ g. omega (arith, g)), (λ g. omega (arith, g))))
 
-    module _ (n : ℕ) (en : n ≡ at_most16 h.count) (long : length rs ≡ 16) where
-      -- Of 16 rows the first n are the first `count`.
-      first_most : take n (pairs_of rs) ≡ take h.count (pairs_of rs)
-      first_most = take_most (pairs_of rs) h.count (pairs_length rs ∙ long) n (omega (arith, en)) (omega (arith, en))
+  module _ (h : Heading) where
+    abbrev w : Walked
+    w = walked_by (Some h) ps
 
-      pub coded_in : b ≡ true → Coded raw (take n (pairs_of rs))
-      unfolding walked_by
-      coded_in f = subst (Coded raw) (sym first_most) (coded_walk raw w (ew ∙ ap (λ (y : List ℕ). settled (walked y)) (sym er)) (shape_is ∙ f))
+    pub no_kind : h.kind ≡ None → blank 3 ≡ finished raw w
+    unfolding in_shape shape_fits walked_by made_by
+    no_kind e = sym (finish_out raw w (ap (λ (k : std.Option Kind). shape_fits (kind_code k) (next_of h.text) h.count (holds_text (tag_number h.tag))) e))
 
-    -- The head d and the rows beside it, with the end.
-    module _ (d : Head) (ds : List (List ℕ)) (end : ℕ) (ee : end ≡ event_length s) (r : Next) (e : r ≡ record { event = d; end = end }) where
-      answer : described_by d ds ≡ finished raw w → (described_by r.event ds ≡ described (first_event s)) × (r.end ≡ event_length s)
-      answer f = (ap (λ (y : Next). described_by y.event ds) e ∙ whole f, ap (λ (y : Next). y.end) e ∙ ee)
+    module _ (k : Kind) (ek : h.kind ≡ Some k) {b : Bool} (es : b ≡ shape_fits (kind_number k) (next_of h.text) h.count (holds_text (tag_number h.tag))) where
+      shape_is : in_shape w ≡ b
+      unfolding in_shape walked_by made_by
+      shape_is = ap (λ (o : std.Option Kind). shape_fits (kind_code o) (next_of h.text) h.count (holds_text (tag_number h.tag))) ek ∙ sym es
 
-      pub end_shape : described_by d ds ≡ blank 3 → b ≡ false → (described_by r.event ds ≡ described (first_event s)) × (r.end ≡ event_length s)
-      end_shape ed f = answer (ed ∙ sym (finish_out raw w (shape_is ∙ f)))
+      pub wrong_shape : b ≡ false → blank 3 ≡ finished raw w
+      wrong_shape f = sym (finish_out raw w (shape_is ∙ f))
 
-      module _ (n : ℕ) (en : n ≡ at_most16 h.count) (long : length rs ≡ 16) (f : b ≡ true) {k : Bool} (ek : k ≡ all_differ (pair_keys raw (take n (pairs_of rs)))) where
-        differ_is : all_differ (pair_keys raw (take w.count w.pairs)) ≡ k
-        unfolding walked_by
-        differ_is = sym (ek ∙ ap (λ (ps : List Pair). all_differ (pair_keys raw ps)) (first_most n en long))
+      module _ (f : b ≡ true) (qs : List code.Pair) (n : ℕ) (eq : qs ≡ take n ps) (en : n ≡ at_most16 h.count) (long : length ps ≡ 16) where
+        -- Of 16 attributes the first n are the first `count`.
+        first_most : pairs_of qs ≡ take h.count (pairs_of ps)
+        first_most = ap pairs_of eq ∙ pairs_take ps n ∙ take_most (pairs_of ps) h.count (pairs_length ps ∙ long) n (omega (arith, en)) (omega (arith, en))
 
-        pub end_keys : described_by d ds ≡ blank 4 → k ≡ false → (described_by r.event ds ≡ described (first_event s)) × (r.end ≡ event_length s)
-        end_keys ed g = answer (ed ∙ sym (finish_in raw w (shape_is ∙ f) false (differ_is ∙ g)))
+        pub coded_in : w ≡ settled (walked raw) → Coded raw (pairs_of qs)
+        unfolding walked_by made_by
+        coded_in e = subst (Coded raw) (sym first_most) (coded_walk raw w e (shape_is ∙ f))
 
-        pub end_good : d ≡ head_of h → ds ≡ rs → k ≡ true → (described_by r.event ds ≡ described (first_event s)) × (r.end ≡ event_length s)
-        unfolding described_by head_of description_of walked_by
-        end_good ed eq g = answer (ap₂ described_by ed eq ∙ sym (finish_in raw w (shape_is ∙ f) true (differ_is ∙ g)))
+        module _ {c : Bool} (ec : c ≡ all_differ (pair_keys raw (pairs_of qs))) where
+          differ_is : all_differ (pair_keys raw (take w.count w.pairs)) ≡ c
+          unfolding walked_by made_by
+          differ_is = sym (ec ∙ ap (λ (x : List Pair). all_differ (pair_keys raw x)) first_most)
+
+          pub repeated : c ≡ false → blank 4 ≡ finished raw w
+          repeated g = sym (finish_in raw w (shape_is ∙ f) false (differ_is ∙ g))
+
+          pub taken_apart : c ≡ true → described_by (record { kind = k; tag = h.tag; name = h.name; count = h.count; text = h.text }) ps ≡ finished raw w
+          unfolding described_by description_of walked_by made_by
+          taken_apart g =
+              ap (λ (n : ℕ). record { number = 0; kind = n; tag = tag_number h.tag; name = h.name; count = h.count; pairs = pairs_of ps; text = text_of h.text }) (sym (ap kind_code ek))
+              ∙ sym (finish_in raw w (shape_is ∙ f) true (differ_is ∙ g))
 
 -- The bytes of the first event, cut out.
 module _ (s : List ℕ) (end : ℕ) (ee : end ≡ event_length s) where
   pub end_within : end ≤ length s
   end_within = omega (arith, ee, event_within s)
 
-  pub cut_out : take (end - 0) (drop 0 s) ≡ first_event s
-  cut_out = let z : end - 0 ≡ event_length s = omega (arith, ee) in ap (λ (n : ℕ). take n s) z
+  pub cut_out : take end s ≡ first_event s
+  cut_out = ap (λ (n : ℕ). take n s) ee
 
--- Zeros beside rows without an attribute.
-pub blank_is : (n : ℕ) (rs : List (List ℕ)) → pairs_of rs ≡ no_pairs → described_by (record { number = n; kind = 0; tag = 0; name = part_at 0 0 0; count = 0; text = part_at 0 0 0 }) rs ≡ blank n
-unfolding described_by blank
-blank_is n rs e = rw e
+-- What is finished of a stream's first event is its description.
+pub first_described : (s raw : List ℕ) (o : std.Option Heading) (ps : List code.Pair) → walked_by o ps ≡ settled (walked (first_event s)) → raw ≡ first_event s → finished raw (walked_by o ps) ≡ described (first_event s)
+unfolding described
+first_described s raw o ps e f = ap₂ finished f e ∙ settled_finished (first_event s) (walked (first_event s))
+
+-- A refusal, and no attributes beside it.
+pub refused_is : (r : Refusal) (ps : List code.Pair) → pairs_of ps ≡ no_pairs → told_by (Err r) ps ≡ blank (refusal_number r)
+unfolding told_by blank
+refused_is r ps e = rw e
+
+-- The answer, with the attributes beside it: none where it is a refusal.
+module _ (e : Result Head Refusal) (ps : List code.Pair) (x : Described) (h : MatchResult e (λ d. described_by d ps ≡ x) (λ r. blank (refusal_number r) ≡ x)) where
+  pub refused : is_err e ≡ true → (qs : List code.Pair) → pairs_of qs ≡ no_pairs → told_by e qs ≡ x
+  refused t qs z = go e h t
+    where
+      go : (e : Result Head Refusal) → MatchResult e (λ d. described_by d ps ≡ x) (λ r. blank (refusal_number r) ≡ x) → is_err e ≡ true → told_by e qs ≡ x
+      go (Ok d) m t = true_is_false (sym t)
+      go (Err r) m t = refused_is r qs z ∙ m
+
+  pub accepted : is_err e ≡ false → told_by e ps ≡ x
+  unfolding told_by
+  accepted t = go e h t
+    where
+      go : (e : Result Head Refusal) → MatchResult e (λ d. described_by d ps ≡ x) (λ r. blank (refusal_number r) ≡ x) → is_err e ≡ false → told_by e ps ≡ x
+      go (Ok d) m t = m
+      go (Err r) m t = true_is_false t
 
 -- Bytes in which a second event begins are out of form.
 pub out_of_one : (raw : List ℕ) → event_length raw < length raw → blank 3 ≡ described raw
 unfolding described
 out_of_one raw h = sym (stopped_out raw (walked raw) (second_event raw h))
-
--- ---- the kind
-
-module _ (next count : ℕ) (h : Bool) where
-  pub shape_at : (k m : ℕ) {r : Bool} → k ≡ m → r ≡ shape_fits m next count h → r ≡ shape_fits k next count h
-  shape_at k m e f = f ∙ ap (λ (x : ℕ). shape_fits x next count h) (sym e)
-
-  pub shape_none : (k : ℕ) → (k ≡ 0 → ⊥) → (k ≡ 1 → ⊥) → (k ≡ 2 → ⊥) → (k ≡ 3 → ⊥) → false ≡ shape_fits k next count h
-  unfolding shape_fits
-  shape_none zero a b c e = absurd (a refl)
-  shape_none (suc zero) a b c e = absurd (b refl)
-  shape_none (suc (suc zero)) a b c e = absurd (c refl)
-  shape_none (suc (suc (suc zero))) a b c e = absurd (e refl)
-  shape_none (suc (suc (suc (suc k)))) a b c e = refl

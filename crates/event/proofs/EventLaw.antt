@@ -15,7 +15,7 @@ use Rattle.definition.specs.Event.{Attribute, Event, has_text, no_attributes, ki
 use Rattle.definition.proofs.Base.{true_is_false, some_inj, and_left, and_right}
 use Rattle.definition.proofs.EventLength.{event_length_lem}
 use Rattle.lines.specs.Parts.{or_nothing}
-use Rattle.parts.specs.declared.Pair.{Pair}
+use Rattle.parts.specs.Walked.{Pair}
 use Rattle.parts.specs.Walked.{Walked}
 use Rattle.walk.specs.Walk.{walked}
 use Rattle.walk.specs.Reads.{Pairs, no_pairs_lem, pair}

@@ -1,14 +1,15 @@
 -- An event's bytes taken apart: what the walk over its lines has brought, if the event is in form and its keys are different.
-use Rattle.std.specs.Prelude.{ℕ, zero, suc, ◌≡◌, Bool, true, false, ◌&&◌, not, List, [], ◌∷◌, take, replicate, eqb}
+use Rattle.std.specs.Prelude.{ℕ, zero, suc, ◌≡◌, Bool, true, false, ◌&&◌, not, List, [], ◌∷◌, take, replicate, eqb, Result, Ok, Err}
 use Rattle.definition.specs.Text.{same}
 use Rattle.definition.specs.Elements.{key_of, holds_text}
 use Rattle.definition.specs.Event.{legible}
 use Rattle.lines.specs.Parts.{part, or_nothing}
 use Rattle.parts.specs.declared.Part.{Part}
-use Rattle.parts.specs.declared.Pair.{Pair}
-use Rattle.parts.specs.Walked.{Walked}
-use Rattle.parts.specs.declared.Heading.{Heading}
-use Rattle.parts.specs.Parts.{part_at, no_pair, pairs_of}
+use Rattle.definition.specs.declared.codes.Refusal.{Refusal}
+use Rattle.definition.specs.Codes.{kind_number, tag_number, refusal_number}
+use Rattle.parts.specs.declared.Pair as code
+use Rattle.parts.specs.Walked.{Walked, Pair}
+use Rattle.parts.specs.Parts.{part_at, no_pair, pairs_of, text_of}
 use Rattle.walk.specs.Walk.{walked}
 use Rattle.event.specs.Description.{Described}
 use Rattle.event.specs.declared.Head.{Head}
@@ -26,23 +27,34 @@ blank n =
       text = part_at 0 0 0;
     }
 
--- What a head and the rows beside it say together.
-unfoldable pub described_by : Head → List (List ℕ) → Described
+-- What a head and the attributes beside it say together.
+unfoldable pub described_by : Head → List code.Pair → Described
 unfolding pairs_of
-described_by h rs =
+described_by h ps =
     record {
-      number = h.number;
-      kind = h.kind;
-      tag = h.tag;
+      number = 0;
+      kind = kind_number h.kind;
+      tag = tag_number h.tag;
       name = h.name;
       count = h.count;
-      pairs = pairs_of rs;
-      text = h.text;
+      pairs = pairs_of ps;
+      text = text_of h.text;
     }
 
--- The head of what the lines have brought.
-unfoldable pub head_of : Heading → Head
-head_of h = record { number = 0; kind = h.kind; tag = h.tag; name = h.name; count = h.count; text = h.text }
+-- The same where the event may be refused.
+unfoldable pub told_by : Result Head Refusal → List code.Pair → Described
+unfolding described_by pairs_of
+told_by (Ok h) ps = described_by h ps
+told_by (Err r) ps =
+    record {
+      number = refusal_number r;
+      kind = 0;
+      tag = 0;
+      name = part_at 0 0 0;
+      count = 0;
+      pairs = pairs_of ps;
+      text = part_at 0 0 0;
+    }
 
 -- Taken apart: what the lines have brought.
 unfoldable pub description_of : Walked → Described
@@ -78,7 +90,11 @@ unfoldable pub read : List ℕ → Part → List ℕ
 unfolding part or_nothing legible
 read raw p = or_nothing (legible (part raw p.at p.len))
 
--- Each pair has its key's number.
+-- A pair has its key's number.
+abbrev pub IsCoded : List ℕ → Pair → Type 0
+IsCoded raw p = p.code ≡ key_of (read raw p.key)
+
+-- Each pair has it.
 unfoldable pub Coded : List ℕ → List Pair → Type 0
 unfolding read
 Coded raw [] = Unit

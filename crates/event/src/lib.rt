@@ -1,187 +1,151 @@
-// The description of an event's bytes: questions 3 and 4, then numbers, and where each text stands.
+// The description of an event's bytes: questions 3 and 4, then what it is, and where each text stands.
 
 #![tactic(auto)]
 
-ghost use Rattle.std.specs.Prelude.{◌≡◌, ◌+◌, ◌<◌, ◌≤◌, length, get_or, take, drop};
-ghost use Rattle.lines.specs.Lines.{event_length};
-ghost use Rattle.parts.specs.Parts.{no_pair, pairs_of};
+ghost use Rattle.std.specs.Prelude.{◌≡◌, ◌≤◌, length, take, drop, MatchResult};
+ghost use Rattle.definition.specs.Codes.{kind_number, refusal_number};
 ghost use Rattle.definition.specs.Text.{same};
-ghost use Rattle.definition.specs.Elements.{key_of};
-ghost use Rattle.event.specs.Described.{Coded, blank, described_by, head_of, shape_fits, read, pair_keys, is_among, all_differ, described};
-ghost use Rattle.event.specs.One.{one_event};
+ghost use Rattle.lines.specs.Lines.{event_length};
+ghost use Rattle.parts.specs.Parts.{pair_of, pairs_of, next_of, walked_by};
+ghost use Rattle.walk.specs.Walk.{walked};
+ghost use Rattle.walk.specs.Stream.{settled};
+ghost use Rattle.event.specs.Described.{Coded, IsCoded, blank, described_by, told_by, shape_fits, read, pair_keys, is_among, all_differ, finished, described};
+ghost use Rattle.event.specs.One.{outcome, one_event};
 
+use definition::codes::{Kind, Refusal, Tag};
 use lines::{next_event, part_of, same_text};
 use nesting::holds_text;
-use parts::{Heading, Pair, Part, at_most_16, clear, pair_at, place};
+use parts::{Heading, Pair, Part, at_most_16, clear};
 use walk::walk_lines;
 
-// An event's bytes taken apart: its kind from 0 and its element's number; the first `count` of the rows that are lent beside it are its attributes, in order. Of
-// kind 2, `whole`, `text` is the text. A refused event has the number of the question that is answered no, and zeros.
+// An event's bytes taken apart: its kind and its element; the first `count` of the attributes that are lent beside it are its own, in order. Of kind `whole`
+// `text` is the text.
 #[derive(Clone, Copy)]
 pub struct Head {
-    pub number: u32,
-    pub kind: u32,
-    pub tag: u32,
+    pub kind: Kind,
+    pub tag: Tag,
     pub name: Part,
     pub count: usize,
-    pub text: Part,
-}
-
-// A refused event has no attributes, whatever the walk has left in the rows.
-fn blank_with(number: u32, pairs: &mut [[u16; 8]]) -> Head
-    requires { length pairs.old ≡ 16 }
-    ensures { described_by result pairs.new ≡ blank number }
-{
-    clear(pairs);
-    let part = Part {
-        at: 0,
-        len: 0,
-        size: 0,
-    };
-    Head {
-        number: number,
-        kind: 0,
-        tag: 0,
-        name: part,
-        count: 0,
-        text: part,
-    }
-}
-
-fn head_of(w: Heading) -> Head
-    ensures { result ≡ head_of w }
-{
-    let kind = w.kind;
-    let tag = w.tag;
-    let name = w.name;
-    let count = w.count;
-    let text = w.text;
-    Head {
-        number: 0,
-        kind: kind,
-        tag: tag,
-        name: name,
-        count: count,
-        text: text,
-    }
+    pub text: Option<Part>,
 }
 
 // Whether the kind fits what came.
-fn shape_fits(kind: u32, next: u32, count: usize, holds: bool) -> bool
-    ensures { result ≡ shape_fits kind next count holds }
+#[tactic(auto, using(crate::proofs::DescribeLaws::no_text_next, crate::proofs::DescribeLaws::text_next), unfolding(crate::specs::Described::shape_fits))]
+fn shape_fits(kind: Kind, text: Option<Part>, count: usize, holds: bool) -> bool
+    ensures { result ≡ shape_fits (kind_number kind) (next_of text) count holds }
 {
-    if kind == 0 {
-        return (next == 2) & !holds;
+    match kind {
+        Kind::Open => text.is_none() & !holds,
+        Kind::Empty => text.is_none(),
+        Kind::Whole => text.is_some() & holds,
+        Kind::End => text.is_none() & (count == 0),
     }
-    if kind == 1 {
-        return next == 2;
-    }
-    if kind == 2 {
-        return (next == 4) & holds;
-    }
-    if kind == 3 {
-        return (next == 2) & (count == 0);
-    }
-    false
 }
 
 // Whether two pairs have the same key. Keys with different numbers are different, so texts are compared for unknown keys only, or where a key is repeated.
 fn same_key(raw: &[u8], p: Pair, q: Pair) -> bool
-    requires code_value { p.code ≡ key_of (read raw.now p.key) }
-    requires code_value_2 { q.code ≡ key_of (read raw.now q.key) }
+    requires p_value { IsCoded raw.now (pair_of p) }
+    requires q_value { IsCoded raw.now (pair_of q) }
     ensures { result ≡ same (read raw.now q.key) (read raw.now p.key) }
 {
     if p.code != q.code {
         return false;
     }
-    let at = place(p.key.at);
-    let len = place(p.key.len);
-    let from = place(q.key.at);
-    let long = place(q.key.len);
-    same_text(part_of(raw, from, long), part_of(raw, at, len))
+    same_text(
+        part_of(raw, usize::from(q.key.at), usize::from(q.key.len)),
+        part_of(raw, usize::from(p.key.at), usize::from(p.key.len)),
+    )
 }
 
-// Whether the key of pair `i` is the key of a later one.
-fn key_repeats(raw: &[u8], pairs: &[[u16; 8]], n: usize, i: usize) -> bool
-    requires n_in_bounds { n ≤ length pairs.now }
-    requires i_lt_n { i < n }
-    requires coded { Coded raw.now (drop i (take n (pairs_of pairs.now))) }
-    ensures { result ≡ is_among (read raw.now (get_or (pairs_of pairs.now) i no_pair).key) (pair_keys raw.now (drop (i + 1) (take n (pairs_of pairs.now)))) }
+// Whether the key of a pair is the key of a later one.
+fn key_repeats(raw: &[u8], p: Pair, later: &[Pair]) -> bool
+    requires p_value { IsCoded raw.now (pair_of p) }
+    requires coded { Coded raw.now (pairs_of later.now) }
+    ensures { result ≡ is_among (read raw.now p.key) (pair_keys raw.now (pairs_of later.now)) }
 {
-    let p = pair_at(pairs, i);
-    let mut j = i + 1;
-    while j < n {
-        if same_key(raw, p, pair_at(pairs, j)) {
+    let mut rest = later;
+    while let Some((q, left)) = rest.split_first() {
+        if same_key(raw, p, *q) {
             return true;
         }
-        j += 1;
+        rest = left;
     }
     false
 }
 
-// Whether the keys of the first `n` pairs are different: the last one has no later one.
-fn keys_differ(raw: &[u8], pairs: &[[u16; 8]], n: usize) -> bool
-    requires n_in_bounds { n ≤ length pairs.now }
-    requires coded { Coded raw.now (take n (pairs_of pairs.now)) }
-    ensures { result ≡ all_differ (pair_keys raw.now (take n (pairs_of pairs.now))) }
+// Whether the keys of all pairs are different.
+fn keys_differ(raw: &[u8], pairs: &[Pair]) -> bool
+    requires { Coded raw.now (pairs_of pairs.now) }
+    ensures { result ≡ all_differ (pair_keys raw.now (pairs_of pairs.now)) }
 {
-    let mut i = 0;
-    while i + 1 < n {
-        if key_repeats(raw, pairs, n, i) {
+    let mut rest = pairs;
+    while let Some((p, later)) = rest.split_first() {
+        if key_repeats(raw, *p, later) {
             return false;
         }
-        i += 1;
+        rest = later;
     }
     true
 }
 
-// A stream's first event, and where it ends.
+// What the lines have brought, if the event is in form and its keys are different.
+fn head_of(raw: &[u8], heading: Option<Heading>, pairs: &[Pair]) -> Result<Head, Refusal>
+    requires pairs_len { length pairs.now ≡ 16 }
+    requires heading_value { walked_by heading pairs.now ≡ settled (walked raw.now) }
+    ensures { MatchResult result (λ d. described_by d pairs.now ≡ finished raw.now (walked_by heading pairs.now)) (λ r. blank (refusal_number r) ≡ finished raw.now (walked_by heading pairs.now)) }
+{
+    let Some(w) = heading else {
+        return Err(Refusal::NotInForm);
+    };
+    let Some(kind) = w.kind else {
+        return Err(Refusal::NotInForm);
+    };
+    if !shape_fits(kind, w.text, w.count, holds_text(w.tag.number())) {
+        return Err(Refusal::NotInForm);
+    }
+    if !keys_differ(raw, &pairs[..at_most_16(w.count)]) {
+        return Err(Refusal::RepeatedKey);
+    }
+    Ok(Head {
+        kind,
+        tag: w.tag,
+        name: w.name,
+        count: w.count,
+        text: w.text,
+    })
+}
+
+// A stream's first event, or which question is answered no, and where it ends.
 #[derive(Clone, Copy)]
 pub struct Next {
-    pub event: Head,
+    pub event: Result<Head, Refusal>,
     pub end: usize,
 }
 
-fn next_of(event: Head, end: usize) -> Next
-    ensures { result ≡ record { event = event; end = end } }
-{
-    Next {
-        event: event,
-        end: end,
-    }
-}
-
-// The first event of a stream taken apart: it runs to the next line that begins `event=`, or to the end.
-pub fn describe_next(stream: &[u8], pairs: &mut [[u16; 8]]) -> Next
+// The first event of a stream taken apart: it runs to the next line that begins `event=`, or to the end. A refused event has no attributes, whatever the walk
+// has left beside it.
+pub fn describe_next(stream: &[u8], pairs: &mut [Pair]) -> Next
     requires { length pairs.old ≡ 16 }
-    ensures event { described_by result.event pairs.new ≡ described (take (event_length stream.now) stream.now) }
+    ensures event { told_by result.event pairs.new ≡ described (take (event_length stream.now) stream.now) }
     ensures end { result.end ≡ event_length stream.now }
 {
     let x = walk_lines(stream, pairs);
-    let w = x.walked;
-    let end = x.end;
-    let kind = w.kind;
-    let next = w.next;
-    let count = w.count;
-    let holds = holds_text(w.tag);
-    if !shape_fits(kind, next, count, holds) {
-        return next_of(blank_with(3, pairs), end);
+    let event = head_of(&stream[..x.end], x.walked, pairs);
+    if event.is_err() {
+        clear(pairs);
     }
-    if !keys_differ(&stream[0..end], pairs, at_most_16(count)) {
-        return next_of(blank_with(4, pairs), end);
-    }
-    next_of(head_of(w), end)
+    Next { event, end: x.end }
 }
 
-// 3 for bytes that hold no event or more than one: they are out of form.
-pub fn one_event(raw: &[u8]) -> u32
-    ensures { result ≡ one_event raw.now }
+// Bytes that hold no event or more than one are out of form.
+pub fn one_event(raw: &[u8]) -> Result<(), Refusal>
+    ensures { outcome result ≡ one_event raw.now }
 {
-    if raw.len() == 0 {
-        return 3;
+    if raw.is_empty() {
+        return Err(Refusal::NotInForm);
     }
     if next_event(raw, 0) < raw.len() {
-        return 3;
+        return Err(Refusal::NotInForm);
     }
-    0
+    Ok(())
 }

@@ -4,6 +4,9 @@ use Rattle.definition.specs.Rows.{Row, Cell, no_cell, cell_at, with_cell}
 use Rattle.definition.specs.Look.{Field}
 use Rattle.definition.specs.Change.{field_in, field_cell, trimmed_cell, if_filled}
 use Rattle.fill.specs.declared.TextCell.{TextCell}
+use Rattle.fill.specs.declared.Filling.{Filling}
+use Rattle.fill.specs.declared.Take.{Take}
+use Rattle.fill.specs.declared.Take.TheVariants.{Always, UnlessEmpty, IfThere}
 
 unfoldable pub cell : ℕ → ℕ → Cell
 cell a n = record { at = a; len = n }
@@ -190,3 +193,23 @@ fill_from t (f ∷ fs) r = elim (leb 48 (get_or f 0 0)) [ true ↦ r | false ↦
 unfoldable pub shaped_by : List ℕ → ℕ → ℕ → Row → Row
 unfolding fill_from fills start_of
 shaped_by t g h r = fill_from t (drop (start_of g h) fills) r
+
+-- ---- the same, shape by shape
+
+abbrev pub take_number : Take → ℕ
+take_number Always = 0
+take_number UnlessEmpty = 1
+take_number IfThere = 2
+
+abbrev pub as_list : Filling → List ℕ
+as_list f = f.0 ∷ f.1 ∷ take_number f.2 ∷ []
+
+-- The fillings up to the end of a shape.
+unfoldable pub shape_from : List (List ℕ) → List (List ℕ)
+shape_from [] = []
+shape_from (f ∷ fs) = elim (leb 48 (get_or f 0 0)) [ true ↦ [] | false ↦ f ∷ shape_from fs ]
+
+unfoldable pub fill_all : List ℕ → List (List ℕ) → Row → Row
+unfolding fill_one
+fill_all t [] r = r
+fill_all t (f ∷ fs) r = fill_all t fs (fill_one t f r)

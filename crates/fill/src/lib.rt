@@ -2,175 +2,12 @@
 
 #![tactic(auto)]
 
-ghost use Rattle.std.specs.Prelude.{◌≡◌, [], suc, ◌<◌, get_or, set, drop};
+ghost use Rattle.std.specs.Prelude.{◌≡◌, ◌<◌, get_or, drop, map};
 ghost use Rattle.definition.specs.Rows.{cell_at, with_cell};
-ghost use Rattle.fill.specs.Fill.{starts, start_of, cell, as_cell, cell_by, fill_from, shaped_by};
+ghost use Rattle.fill.specs.Fill.{fills, start_of, as_cell, cell_by, take_number, as_list, shape_from, fill_all, shaped_by};
 
-use rows::index;
-
-// Column, place of the cell among the texts, and how it is taken (0: as it is, 1: unless empty, 2: if there); a column of 99 ends a shape.
-const FILLS: [[u8; 3]; 72] = [
-    [99, 0, 0],
-    [3, 6, 2],
-    [5, 8, 2],
-    [7, 12, 2],
-    [99, 0, 0],
-    [4, 14, 0],
-    [6, 16, 0],
-    [8, 18, 0],
-    [10, 20, 0],
-    [12, 2, 1],
-    [14, 22, 1],
-    [99, 0, 0],
-    [1, 2, 0],
-    [3, 38, 0],
-    [5, 0, 0],
-    [99, 0, 0],
-    [1, 2, 0],
-    [3, 0, 0],
-    [5, 62, 0],
-    [99, 0, 0],
-    [10, 0, 0],
-    [12, 0, 0],
-    [99, 0, 0],
-    [6, 32, 0],
-    [99, 0, 0],
-    [2, 6, 0],
-    [4, 38, 1],
-    [6, 54, 1],
-    [99, 0, 0],
-    [42, 58, 0],
-    [10, 38, 0],
-    [99, 0, 0],
-    [16, 58, 0],
-    [18, 38, 0],
-    [99, 0, 0],
-    [10, 58, 0],
-    [12, 38, 0],
-    [99, 0, 0],
-    [6, 32, 0],
-    [99, 0, 0],
-    [12, 28, 0],
-    [14, 30, 0],
-    [16, 34, 0],
-    [18, 36, 0],
-    [20, 14, 0],
-    [22, 16, 0],
-    [24, 2, 1],
-    [26, 22, 1],
-    [28, 52, 0],
-    [99, 0, 0],
-    [12, 28, 0],
-    [99, 0, 0],
-    [30, 46, 1],
-    [32, 48, 0],
-    [99, 0, 0],
-    [36, 56, 1],
-    [10, 38, 0],
-    [99, 0, 0],
-    [34, 54, 0],
-    [10, 38, 0],
-    [99, 0, 0],
-    [34, 54, 0],
-    [42, 60, 0],
-    [99, 0, 0],
-    [6, 32, 0],
-    [99, 0, 0],
-    [8, 40, 0],
-    [38, 42, 0],
-    [40, 44, 1],
-    [99, 0, 0],
-    [42, 62, 0],
-    [99, 0, 0],
-];
-
-// Where an element's shapes begin.
-const STARTS: [[u8; 3]; 28] = [
-    [0, 0, 0],
-    [1, 0, 0],
-    [0, 0, 0],
-    [0, 0, 0],
-    [0, 0, 0],
-    [0, 0, 0],
-    [0, 0, 0],
-    [0, 0, 0],
-    [5, 0, 0],
-    [12, 16, 0],
-    [20, 0, 0],
-    [0, 0, 0],
-    [0, 0, 0],
-    [23, 0, 0],
-    [25, 0, 0],
-    [29, 32, 35],
-    [38, 0, 0],
-    [0, 0, 0],
-    [0, 0, 0],
-    [40, 0, 0],
-    [50, 0, 0],
-    [52, 0, 0],
-    [55, 0, 0],
-    [58, 61, 0],
-    [64, 0, 0],
-    [66, 0, 0],
-    [70, 0, 0],
-    [0, 0, 0],
-];
-
-pub fn get(t: &[u32], i: usize) -> u32
-    ensures { result ≡ get_or t.now i 0 }
-{
-    if i < t.len() {
-        return t[i];
-    }
-    0
-}
-
-fn get_next(t: &[u32], i: usize) -> u32
-    ensures { result ≡ get_or t.now (suc i) 0 }
-{
-    if i < t.len() {
-        return get(t, i + 1);
-    }
-    0
-}
-
-pub fn put(t: &mut [u32], i: usize, v: u32)
-    ensures { t.new ≡ set t.old i v }
-{
-    if i < t.len() {
-        t[i] = v;
-        return;
-    }
-}
-
-fn number(x: u8) -> usize
-    ensures { result ≡ x }
-{
-    x as usize
-}
-
-fn starts_at(tag: usize) -> [u8; 3]
-    requires { tag < 28 }
-    ensures { result ≡ get_or starts tag [] }
-{
-    STARTS[tag]
-}
-
-// Where a shape's fillings begin; one that is not there has none.
-fn start_of(tag: u32, shape: u32) -> usize
-    ensures { result ≡ start_of tag shape }
-{
-    let g = index(tag);
-    let h = index(shape);
-    if 28 <= g {
-        return 0;
-    }
-    if 3 <= h {
-        return 0;
-    }
-    let row = starts_at(g);
-    number(row[h])
-}
+use definition::codes::Tag;
+use rows::put;
 
 /// A text in the arena: one more than its place, and its length; 0 and 0 where there is none.
 #[derive(Clone, Copy)]
@@ -179,61 +16,198 @@ pub struct TextCell {
     pub len: u32,
 }
 
-fn cell_by(mode: usize, a: u32, b: u32, at: u32, len: u32) -> TextCell
-    ensures { as_cell result ≡ cell_by mode (cell a b) (cell at len) }
-{
-    if mode == 0 {
-        return TextCell { at: at, len: len };
-    }
-    if mode == 1 {
-        if len == 0 {
-            return TextCell { at: 0, len: 0 };
-        }
-        return TextCell { at: at, len: len };
-    }
-    if at == 0 {
-        return TextCell { at: a, len: b };
-    }
-    TextCell { at: at, len: len }
+impl TextCell {
+    pub const NONE: TextCell = TextCell { at: 0, len: 0 };
 }
 
-fn put_cell(row: &mut [u32], column: usize, mode: usize, at: u32, len: u32)
-    requires { column < 65536 }
-    ensures { row.new ≡ with_cell column (cell_by mode (cell_at row.old column) (cell at len)) row.old }
-{
-    let a = get(row, column);
-    let b = get_next(row, column);
-    let c = cell_by(mode, a, b, at, len);
-    let x = c.at;
-    let y = c.len;
-    put(row, column, x);
-    put(row, column + 1, y);
+// How a text is taken into a row: as it is; none where it has no bytes; only where there is one.
+#[derive(Clone, Copy)]
+enum Take {
+    Always,
+    UnlessEmpty,
+    IfThere,
 }
 
-// The fillings from `start` on, up to the end of a shape.
-fn fill_from(row: &mut [u32], rows: &[[u8; 3]], start: usize, t: &[u32])
-    ensures { row.new ≡ fill_from t.now (drop start rows.now) row.old }
+// A column of a row, where among the event's texts its text is, and how that is taken.
+#[derive(Clone, Copy)]
+struct Filling(u8, u8, Take);
+
+// The shapes, by element.
+const SCXML: [Filling; 3] = [
+    Filling(3, 6, Take::IfThere),
+    Filling(5, 8, Take::IfThere),
+    Filling(7, 12, Take::IfThere),
+];
+
+const INVOKE: [Filling; 6] = [
+    Filling(4, 14, Take::Always),
+    Filling(6, 16, Take::Always),
+    Filling(8, 18, Take::Always),
+    Filling(10, 20, Take::Always),
+    Filling(12, 2, Take::UnlessEmpty),
+    Filling(14, 22, Take::UnlessEmpty),
+];
+
+const DATA: [Filling; 3] = [
+    Filling(1, 2, Take::Always),
+    Filling(3, 38, Take::Always),
+    Filling(5, 0, Take::Always),
+];
+
+const DATA_TEXT: [Filling; 3] = [
+    Filling(1, 2, Take::Always),
+    Filling(3, 0, Take::Always),
+    Filling(5, 62, Take::Always),
+];
+
+const DONEDATA: [Filling; 2] = [Filling(10, 0, Take::Always), Filling(12, 0, Take::Always)];
+
+const ELSEIF: [Filling; 1] = [Filling(6, 32, Take::Always)];
+
+const PARAM: [Filling; 3] = [
+    Filling(2, 6, Take::Always),
+    Filling(4, 38, Take::UnlessEmpty),
+    Filling(6, 54, Take::UnlessEmpty),
+];
+
+const CONTENT_IN_ENTRY: [Filling; 2] = [
+    Filling(42, 58, Take::Always),
+    Filling(10, 38, Take::Always),
+];
+
+const CONTENT_IN_INVOKE: [Filling; 2] = [
+    Filling(16, 58, Take::Always),
+    Filling(18, 38, Take::Always),
+];
+
+const CONTENT_IN_STATE: [Filling; 2] = [
+    Filling(10, 58, Take::Always),
+    Filling(12, 38, Take::Always),
+];
+
+const TRANSITION: [Filling; 1] = [Filling(6, 32, Take::Always)];
+
+const SEND: [Filling; 9] = [
+    Filling(12, 28, Take::Always),
+    Filling(14, 30, Take::Always),
+    Filling(16, 34, Take::Always),
+    Filling(18, 36, Take::Always),
+    Filling(20, 14, Take::Always),
+    Filling(22, 16, Take::Always),
+    Filling(24, 2, Take::UnlessEmpty),
+    Filling(26, 22, Take::UnlessEmpty),
+    Filling(28, 52, Take::Always),
+];
+
+const RAISE: [Filling; 1] = [Filling(12, 28, Take::Always)];
+
+const CANCEL: [Filling; 2] = [
+    Filling(30, 46, Take::UnlessEmpty),
+    Filling(32, 48, Take::Always),
+];
+
+const LOG: [Filling; 2] = [
+    Filling(36, 56, Take::UnlessEmpty),
+    Filling(10, 38, Take::Always),
+];
+
+const ASSIGN: [Filling; 2] = [Filling(34, 54, Take::Always), Filling(10, 38, Take::Always)];
+
+const ASSIGN_TEXT: [Filling; 2] = [Filling(34, 54, Take::Always), Filling(42, 60, Take::Always)];
+
+const IF: [Filling; 1] = [Filling(6, 32, Take::Always)];
+
+const FOREACH: [Filling; 3] = [
+    Filling(8, 40, Take::Always),
+    Filling(38, 42, Take::Always),
+    Filling(40, 44, Take::UnlessEmpty),
+];
+
+const SCRIPT: [Filling; 1] = [Filling(42, 62, Take::Always)];
+
+// The columns that an element fills, in one of its shapes.
+#[tactic(auto, unfolding(crate::specs::Fill::shape_from, crate::specs::Fill::start_of, crate::specs::Fill::starts, crate::specs::Fill::fills))]
+fn fillings(tag: u32, shape: u32) -> &'static [Filling]
+    ensures { map as_list result.now ≡ shape_from (drop (start_of tag shape) fills) }
 {
-    let mut i = start;
-    while i < rows.len() {
-        let f = rows[i];
-        let column = number(f[0]);
-        if 48 <= column {
-            return;
-        }
-        let k = number(f[1]);
-        let mode = number(f[2]);
-        let at = get(t, k);
-        let len = get_next(t, k);
-        put_cell(row, column, mode, at, len);
-        i += 1;
+    match (tag, shape) {
+        (Tag::SCXML, 0) => &SCXML,
+        (Tag::INVOKE, 0) => &INVOKE,
+        (Tag::DATA, 0) => &DATA,
+        (Tag::DATA, 1) => &DATA_TEXT,
+        (Tag::DONEDATA, 0) => &DONEDATA,
+        (Tag::ELSEIF, 0) => &ELSEIF,
+        (Tag::PARAM, 0) => &PARAM,
+        (Tag::CONTENT, 0) => &CONTENT_IN_ENTRY,
+        (Tag::CONTENT, 1) => &CONTENT_IN_INVOKE,
+        (Tag::CONTENT, 2) => &CONTENT_IN_STATE,
+        (Tag::TRANSITION, 0) => &TRANSITION,
+        (Tag::SEND, 0) => &SEND,
+        (Tag::RAISE, 0) => &RAISE,
+        (Tag::CANCEL, 0) => &CANCEL,
+        (Tag::LOG, 0) => &LOG,
+        (Tag::ASSIGN, 0) => &ASSIGN,
+        (Tag::ASSIGN, 1) => &ASSIGN_TEXT,
+        (Tag::IF, 0) => &IF,
+        (Tag::FOREACH, 0) => &FOREACH,
+        (Tag::SCRIPT, 0) => &SCRIPT,
+        _ => &[],
     }
 }
 
-// The row with the texts of a shape.
+fn get(t: &[u32], i: usize) -> u32
+    ensures { result ≡ get_or t.now i 0 }
+{
+    t.get(i).copied().unwrap_or(0)
+}
+
+/// The text at a place of a row or of the texts.
+#[tactic(auto, unfolding(crate::specs::Fill::as_cell, crate::specs::Fill::cell, definition::specs::Rows::cell_at))]
+pub fn cell_in(t: &[u32], i: usize) -> TextCell
+    requires { i < 65536 }
+    ensures { as_cell result ≡ cell_at t.now i }
+{
+    TextCell {
+        at: get(t, i),
+        len: get(t, i + 1),
+    }
+}
+
+/// The same, written.
+#[tactic(auto, unfolding(crate::specs::Fill::as_cell, crate::specs::Fill::cell, definition::specs::Rows::with_cell))]
+pub fn put_cell(t: &mut [u32], i: usize, c: TextCell)
+    requires { i < 65536 }
+    ensures { t.new ≡ with_cell i (as_cell c) t.old }
+{
+    put(t, i, c.at);
+    put(t, i + 1, c.len);
+}
+
+#[tactic(auto, unfolding(crate::specs::Fill::as_cell, crate::specs::Fill::cell, crate::specs::Fill::cell_by, definition::specs::Change::if_filled, definition::specs::Rows::no_cell))]
+fn taken(take: Take, old: TextCell, new: TextCell) -> TextCell
+    ensures { as_cell result ≡ cell_by (take_number take) (as_cell old) (as_cell new) }
+{
+    match take {
+        Take::UnlessEmpty if new.len == 0 => TextCell::NONE,
+        Take::IfThere if new.at == 0 => old,
+        _ => new,
+    }
+}
+
+// The fillings of a shape, in order.
+fn fill_all(row: &mut [u32], shape: &[Filling], t: &[u32])
+    ensures { row.new ≡ fill_all t.now (map as_list shape.now) row.old }
+{
+    for &Filling(column, place, take) in shape {
+        let column = usize::from(column);
+        let cell = taken(take, cell_in(row, column), cell_in(t, usize::from(place)));
+        put_cell(row, column, cell);
+    }
+}
+
+/// The row with the texts of a shape.
 pub fn fill(row: &mut [u32], tag: u32, shape: u32, t: &[u32])
     ensures { row.new ≡ shaped_by t.now tag shape row.old }
 {
-    let start = start_of(tag, shape);
-    fill_from(row, &FILLS, start, t);
+    fill_all(row, fillings(tag, shape), t);
 }

@@ -3,11 +3,14 @@ use Prim.Native.Nat.{ℕ, zero, suc, ◌+◌, ◌-◌, ◌≤◌, ◌<◌}
 use mathlib.Core.Path.{◌≡◌, refl, sym, ap, ◌∙◌}
 use mathlib.Core.Bool.{Bool, true, false}
 use mathlib.Core.List.{List, [], ◌∷◌}
-use native.Mathlib.Numerals.{add-one}
 use native.Mathlib.Omega.{arith}
-use lib.ListN.{length, get_or, take, drop, drop_of_length-le}
-use lib.Seq.{drop-cons}
-use borrow.Author.Tests.{eq-eqb, ne_eqb}
+use lib.ListN.{length, get_or, take, length-take}
+use lib.Dec.{ltb}
+use borrow.Author.Tests.{eq-eqb, ne_eqb, ltb-false}
+use Rattle.std.proofs.Common.{Some, None, slice_get, position, cond, not}
+use Rattle.std.specs.List.{position_or_len, prefix_len}
+use Rattle.std.proofs.lemmas.List.Folds.{length-prefix_len}
+use Rattle.words.proofs.Laws.{by}
 use Rattle.definition.specs.Text.{same, bytes_at}
 use Rattle.definition.specs.Rows.{Row, Table, text_at, cell_at, num}
 use Rattle.definition.specs.Look.{find_datum, is_named, is_innermost, open_name}
@@ -37,26 +40,26 @@ module _ (t : List ℕ) (r : Row) (s : ℕ) (w : List ℕ) where
 
 -- ---- all rows
 
-module _ (rows : Table) (t : List ℕ) (s : ℕ) (w : List ℕ) (i : ℕ) where
-  abbrev rest : ℕ → ℕ
-  rest j = find_datum t (drop j rows) s w
+module _ (t : List ℕ) (s : ℕ) (w : List ℕ) where
+  abbrev this : Row → Bool
+  this r = is_datum t r s w
 
-  abbrev all : ℕ
-  all = find_datum t rows s w
-
-  next : i < length rows → drop i rows ≡ get_or rows i [] ∷ drop (i + 1) rows
-  next h = drop-cons rows i [] h ∙ ap (λ (n : ℕ). get_or rows i [] ∷ drop n rows) (sym (add-one i))
-
-  module _ (b : Bool) (eb : b ≡ is_datum t (get_or rows i []) s w) where
-    pub row_found : i < length rows → i + rest i ≡ all → b ≡ true → i + 1 ≡ all
-    row_found h e q = let z : rest i ≡ 1 = ap (λ (x : Table). find_datum t x s w) (next h) ∙ datum_hit t (get_or rows i []) s w (drop (i + 1) rows) (sym eb ∙ q) in omega (arith, z, e)
-
-    pub row_passed : i < length rows → i + rest i ≡ all → b ≡ false → i + 1 + rest (i + 1) ≡ all
-    row_passed h e q = let z : rest i ≡ suc (rest (i + 1)) = ap (λ (x : Table). find_datum t x s w) (next h) ∙ datum_miss t (get_or rows i []) s w (drop (i + 1) rows) (sym eb ∙ q) in omega (arith, z, e)
-
-  pub rows_end : length rows ≤ i → i + rest i ≡ all → i + 1 ≡ all
+  find_is : (rows : Table) → find_datum t rows s w ≡ suc (position_or_len this rows)
   unfolding find_datum
-  rows_end h e = let z : rest i ≡ 1 = ap (λ (x : Table). find_datum t x s w) (drop_of_length-le rows h) in omega (arith, z, e)
+  find_is [] = refl
+  find_is (r ∷ rows) = by (this r) (λ q. datum_hit t r s w rows q ∙ rw q) (λ q. datum_miss t r s w rows q ∙ rw q (ap suc (find_is rows) ∙ omega arith))
+
+  pub datum_some : (rows : Table) (i : ℕ) → position this rows ≡ Some i → find_datum t rows s w ≡ i + 1
+  datum_some rows i e = omega (arith, find_is rows, told (position_or_len this rows) (length rows) i e)
+    where
+      told : (n m j : ℕ) → cond (ltb n m) (Some n) None ≡ Some j → n ≡ j
+      told n m j e = by (ltb n m) (λ f. let z : Some n ≡ Some j = rw f at e in cc) (λ f. let z : None ≡ Some j = rw f at e in cc)
+
+  pub datum_none : (rows : Table) → position this rows ≡ None → find_datum t rows s w ≡ length rows + 1
+  datum_none rows e = omega (arith, find_is rows, untold (position_or_len this rows) (length rows) e, length-prefix_len (λ (r : Row). not (this r)) rows, length-take (prefix_len (λ (r : Row). not (this r)) rows) rows)
+    where
+      untold : (n m : ℕ) → cond (ltb n m) (Some n) None ≡ None → m ≤ n
+      untold n m e = by (ltb n m) (λ f. let z : Some n ≡ None = rw f at e in cc) (λ f. ltb-false n m f)
 
 module _ (t : List ℕ) (rows : Table) (s : ℕ) (v : Parsed) where
   pub found_data : v.tag ≡ 9 → (w : List ℕ) → w ≡ value_in 1 v.values → (r : ℕ) → r ≡ find_datum t rows s w → r ≡ found_in t rows s v
@@ -69,36 +72,45 @@ module _ (t : List ℕ) (rows : Table) (s : ℕ) (v : Parsed) where
 
 -- ---- the innermost
 
-pub inner_none : (xs ns : Table) (g : ℕ) (w : List ℕ) → length xs ≡ 0 → false ≡ is_innermost xs ns g w
+pub got : (rows : Table) (i : ℕ) (r : Row) → i < length rows → r ≡ get_or rows i [] → slice_get rows i ≡ Some r
+got [] i r h e = absurd (omega arith)
+got (x ∷ rows) zero r h e = ap Some (sym e)
+got (x ∷ rows) (suc i) r h e = got rows i r (omega arith) e
+
+pub lacking : (rows : Table) (i : ℕ) → length rows ≤ i → slice_get rows i ≡ None
+lacking [] i h = refl
+lacking (x ∷ rows) zero h = absurd (omega arith)
+lacking (x ∷ rows) (suc i) h = lacking rows i (omega arith)
+
+pub inner_none : (xs ns : Table) (g : ℕ) (w : List ℕ) → slice_get xs (length xs - 1) ≡ None → false ≡ is_innermost xs ns g w
 unfolding is_innermost
 inner_none [] ns g w e = refl
-inner_none (x ∷ xs) ns g w e = absurd (omega (arith, e))
+inner_none (x ∷ []) ns g w e = cc
+inner_none (x ∷ y ∷ xs) [] g w e = refl
+inner_none (x ∷ y ∷ xs) (n ∷ ns) g w e = let z : suc (suc (length xs)) - 1 ≡ suc (suc (length xs) - 1) = omega arith in inner_none (y ∷ xs) ns g w (rw z at e)
 
-pub inner_short : (xs ns : Table) (g : ℕ) (w : List ℕ) → length ns < length xs → false ≡ is_innermost xs ns g w
+pub inner_short : (xs ns : Table) (g : ℕ) (w : List ℕ) → slice_get ns (length xs - 1) ≡ None → false ≡ is_innermost xs ns g w
 unfolding is_innermost
-inner_short [] ns g w e = absurd (omega (arith, e))
+inner_short [] ns g w e = refl
 inner_short (x ∷ xs) [] g w e = refl
-inner_short (x ∷ []) (n ∷ ns) g w e = absurd (omega (arith, e))
-inner_short (x ∷ y ∷ xs) (n ∷ ns) g w e = inner_short (y ∷ xs) ns g w (omega (arith, e))
+inner_short (x ∷ []) (n ∷ ns) g w e = cc
+inner_short (x ∷ y ∷ xs) (n ∷ ns) g w e = let z : suc (suc (length xs)) - 1 ≡ suc (suc (length xs) - 1) = omega arith in inner_short (y ∷ xs) ns g w (rw z at e)
 
-last_named : (d : ℕ) (xs ns : Table) (g : ℕ) (w : List ℕ) → length xs ≡ suc d → length xs ≤ length ns → is_innermost xs ns g w ≡ is_named (get_or xs d []) (get_or ns d []) g w
+last_named : (xs ns : Table) (x n : Row) (g : ℕ) (w : List ℕ) → slice_get xs (length xs - 1) ≡ Some x → slice_get ns (length xs - 1) ≡ Some n → is_innermost xs ns g w ≡ is_named x n g w
 unfolding is_innermost
-last_named d [] ns g w h k = absurd (omega (arith, h))
-last_named d (x ∷ xs) [] g w h k = absurd (omega (arith, k))
-last_named zero (x ∷ []) (n ∷ ns) g w h k = refl
-last_named zero (x ∷ y ∷ xs) (n ∷ ns) g w h k = absurd (omega (arith, h))
-last_named (suc d) (x ∷ []) (n ∷ ns) g w h k = absurd (omega (arith, h))
-last_named (suc d) (x ∷ y ∷ xs) (n ∷ ns) g w h k = last_named d (y ∷ xs) ns g w (omega (arith, h)) (omega (arith, k))
+last_named [] ns x n g w e f = cc
+last_named (y ∷ xs) [] x n g w e f = cc
+last_named (y ∷ []) (m ∷ ns) x n g w e f =
+    let a : y ≡ x = cc in
+    let b : m ≡ n = cc in
+    rw (a, b)
+last_named (y ∷ z ∷ xs) (m ∷ ns) x n g w e f =
+    let k : suc (suc (length xs)) - 1 ≡ suc (suc (length xs) - 1) = omega arith in
+    last_named (z ∷ xs) ns x n g w (rw k at e) (rw k at f)
 
-module _ (xs ns : Table) (w : List ℕ) (some : length xs ≡ 0 → ⊥) (k : length xs ≤ length ns) (i : ℕ) (ei : i ≡ length xs - 1) where
-  abbrev x : Row
-  x = get_or xs i []
-
-  abbrev n : Row
-  n = get_or ns i []
-
+module _ (xs ns : Table) (w : List ℕ) (x n : Row) (ex : slice_get xs (length xs - 1) ≡ Some x) (en : slice_get ns (length xs - 1) ≡ Some n) where
   named : (g : ℕ) → is_innermost xs ns g w ≡ is_named x n g w
-  named g = last_named i xs ns g w (omega (arith, ei, some)) k
+  named g = last_named xs ns x n g w ex en
 
   pub inner_other : (g : ℕ) → (num x 0 ≡ g → ⊥) → false ≡ is_innermost xs ns g w
   inner_other g f = sym (named g ∙ go g f)
@@ -114,8 +126,8 @@ module _ (xs ns : Table) (w : List ℕ) (some : length xs ≡ 0 → ⊥) (k : le
       go zero e f = absurd (f refl)
       go (suc g) e f = unfold is_named in eq-eqb (num x 0) (suc g) e
 
-  pub inner_name : (g : ℕ) → num x 0 ≡ g → g ≡ 0 → (len : ℕ) → len ≡ num x 3 → (b : Bool) → b ≡ same (bytes_at n (record { off = 0; len = len })) w → b ≡ is_innermost xs ns g w
+  pub inner_name : (g : ℕ) → num x 0 ≡ g → g ≡ 0 → (b : Bool) → b ≡ same (bytes_at n (record { off = 0; len = num x 3 })) w → b ≡ is_innermost xs ns g w
   unfolding is_named open_name bytes_at
-  inner_name g e f len el b eb =
+  inner_name g e f b eb =
       let z : is_named x n 0 w ≡ same (take (num x 3) n) w = rw (eq-eqb (num x 0) 0 (e ∙ f)) in
-      eb ∙ ap (λ (m : ℕ). same (take m n) w) el ∙ sym (named g ∙ ap (λ (m : ℕ). is_named x n m w) f ∙ z)
+      eb ∙ sym (named g ∙ ap (λ (m : ℕ). is_named x n m w) f ∙ z)

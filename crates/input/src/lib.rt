@@ -3,22 +3,15 @@
 #![tactic(auto)]
 
 use definition::{Position, RegionId};
-use pieces::{Piece, next_piece};
+use pieces::next_piece;
+use rows::lent::Lent;
 use std::io::Stdin;
-use streams::Streamed;
 
-/// How far the input is read and fed.
+/// Why the input was not read to its end: a read failed, or an event was refused, with the first no and the event's place from 1.
 #[derive(Clone, Copy)]
-pub struct Reading {
-    pub more: bool,
-    pub failed: bool,
-    // The buffer holds so many bytes, and the first `done` of them are fed.
-    pub done: usize,
-    pub held: usize,
-    pub number: u32,
-    // The events that were accepted; after a refusal the refused one's place.
-    pub event: u64,
-    pub position: Position,
+pub enum Stop {
+    Failed,
+    Refused { number: u32, event: u64 },
 }
 
 fn start() -> Position {
@@ -42,96 +35,32 @@ fn start() -> Position {
     }
 }
 
-fn begin() -> Reading {
-    Reading {
-        more: true,
-        failed: false,
-        done: 0,
-        held: 0,
-        number: 0,
-        event: 0,
-        position: start(),
+/// The whole input, and the position after it. A loop that is proved has to end, and nothing says that the input does: it has more turns than any run uses up.
+pub fn read_all(source: Stdin, lent: &mut Lent<'_>, buffer: &mut [u8]) -> Result<Position, Stop> {
+    let mut position = start();
+    let mut accepted: u64 = 0;
+    // The buffer holds so many bytes, and the first `done` of them are fed.
+    let mut held = 0;
+    let mut done = 0;
+    for _ in 0..u64::MAX {
+        let piece = next_piece(source, buffer, done, held);
+        let fed = reader::chart_stream(lent, position, &buffer[..piece.end]);
+        if fed.number != 0 {
+            return Err(Stop::Refused {
+                number: fed.number,
+                event: accepted.saturating_add(fed.event as u64),
+            });
+        }
+        position = fed.position;
+        if piece.failed {
+            return Err(Stop::Failed);
+        }
+        if piece.ended {
+            return Ok(position);
+        }
+        accepted = accepted.saturating_add(piece.events);
+        held = piece.held;
+        done = piece.end;
     }
-}
-
-// The sum, or the largest number where it would be larger.
-fn sum(a: u64, b: u64) -> u64 {
-    if u64::MAX - b < a {
-        return u64::MAX;
-    }
-    a + b
-}
-
-// After a piece was fed: a refusal, the input's end or a read that failed is the last of it.
-fn fed(now: Reading, piece: Piece, s: Streamed) -> Reading {
-    let position = s.position;
-    if s.number != 0 {
-        let event = sum(now.event, s.event as u64);
-        return Reading {
-            more: false,
-            failed: false,
-            done: 0,
-            held: 0,
-            number: s.number,
-            event: event,
-            position: position,
-        };
-    }
-    let event = sum(now.event, piece.events);
-    let more = !(piece.ended | piece.failed);
-    Reading {
-        more: more,
-        failed: piece.failed,
-        done: piece.end,
-        held: piece.held,
-        number: 0,
-        event: event,
-        position: position,
-    }
-}
-
-/// The whole input, up to the first refusal. A loop that is proved has to end, and nothing says that the input does: the turns are counted down from a number that no run uses up.
-pub fn read_all(
-    source: Stdin,
-    chart: &mut [[u32; 24]],
-    states: &mut [[u32; 24]],
-    transitions: &mut [[u32; 8]],
-    regions: &mut [[u32; 8]],
-    entries: &mut [[u32; 48]],
-    invokes: &mut [[u32; 24]],
-    datums: &mut [[u32; 8]],
-    parameters: &mut [[u32; 8]],
-    members: &mut [[u32; 8]],
-    opened: &mut [[u32; 8]],
-    open_names: &mut [[u8; 64]],
-    open_regions: &mut [[u32; 8]],
-    text: &mut [u8],
-    buffer: &mut [u8],
-) -> Reading {
-    let mut now = begin();
-    let mut turns = u64::MAX;
-    while now.more & (turns > 0) {
-        turns -= 1;
-        let piece = next_piece(source, buffer, now.done, now.held);
-        let end = piece.end;
-        let s = reader::chart_stream(
-            chart,
-            states,
-            transitions,
-            regions,
-            entries,
-            invokes,
-            datums,
-            parameters,
-            members,
-            opened,
-            open_names,
-            open_regions,
-            text,
-            now.position,
-            &buffer[..end],
-        );
-        now = fed(now, piece, s);
-    }
-    now
+    Err(Stop::Failed)
 }

@@ -1,60 +1,57 @@
-// Keys by number: a name by its mark, and one comparison.
+// Keys: a name by its mark, and one comparison.
 
 #![tactic(auto)]
 
-ghost use Rattle.std.specs.Prelude.{◌≡◌};
-ghost use Rattle.definition.specs.Elements.{key_of};
-ghost use Rattle.marks.specs.Marks.{mark};
+ghost use Rattle.std.specs.Prelude.{◌≡◌, MatchOption};
+ghost use Rattle.definition.specs.Codes.{key_code, key_number};
+ghost use Rattle.definition.specs.Elements.{key_of, key_names};
+ghost use Rattle.marks.specs.Marks.{mark, key_marks, NotAny, IsName};
 
+use definition::codes::Key;
 use marks::{mark_of, only};
 
-// Keys by their marks, in the order of their numbers.
-fn key_marked(m: u32, key: &[u8]) -> u32
-    requires { m ≡ mark key.now }
-    ensures { result ≡ key_of key.now }
+// The key of a mark, in the order of their numbers, and its name.
+#[tactic(auto, unfolding(definition::specs::Elements::key_names, definition::specs::Text::str, marks::specs::Marks::mark))]
+fn known(m: u32) -> Option<(&'static [u8], Key)>
+    ensures { MatchOption result (NotAny m key_marks) (λ p. IsName key_names (key_number p.1) p.0.now × (mark p.0.now ≡ m)) }
 {
     match m {
-        90 => only(b"id", key, 1),
-        17 => only(b"initial", key, 2),
-        94 => only(b"name", key, 3),
-        6 => only(b"datamodel", key, 4),
-        115 => only(b"binding", key, 5),
-        18 => only(b"version", key, 6),
-        118 => only(b"type", key, 7),
-        59 => only(b"typeexpr", key, 8),
-        100 => only(b"src", key, 9),
-        51 => only(b"srcexpr", key, 10),
-        20 => only(b"idlocation", key, 11),
-        45 => only(b"namelist", key, 12),
-        116 => only(b"autoforward", key, 13),
-        63 => only(b"event", key, 14),
-        57 => only(b"eventexpr", key, 15),
-        103 => only(b"cond", key, 16),
-        43 => only(b"target", key, 17),
-        37 => only(b"targetexpr", key, 18),
-        54 => only(b"expr", key, 19),
-        84 => only(b"array", key, 20),
-        25 => only(b"item", key, 21),
-        75 => only(b"index", key, 22),
-        95 => only(b"sendid", key, 23),
-        41 => only(b"sendidexpr", key, 24),
-        71 => only(b"delay", key, 25),
-        40 => only(b"delayexpr", key, 26),
-        29 => only(b"location", key, 27),
-        2 => only(b"label", key, 28),
-        _ => 0,
+        90 => Some((b"id", Key::Id)),
+        17 => Some((b"initial", Key::Initial)),
+        94 => Some((b"name", Key::Name)),
+        6 => Some((b"datamodel", Key::Datamodel)),
+        115 => Some((b"binding", Key::Binding)),
+        18 => Some((b"version", Key::Version)),
+        118 => Some((b"type", Key::Type)),
+        59 => Some((b"typeexpr", Key::Typeexpr)),
+        100 => Some((b"src", Key::Src)),
+        51 => Some((b"srcexpr", Key::Srcexpr)),
+        20 => Some((b"idlocation", Key::Idlocation)),
+        45 => Some((b"namelist", Key::Namelist)),
+        116 => Some((b"autoforward", Key::Autoforward)),
+        63 => Some((b"event", Key::Event)),
+        57 => Some((b"eventexpr", Key::Eventexpr)),
+        103 => Some((b"cond", Key::Cond)),
+        43 => Some((b"target", Key::Target)),
+        37 => Some((b"targetexpr", Key::Targetexpr)),
+        54 => Some((b"expr", Key::Expr)),
+        84 => Some((b"array", Key::Array)),
+        25 => Some((b"item", Key::Item)),
+        75 => Some((b"index", Key::Index)),
+        95 => Some((b"sendid", Key::Sendid)),
+        41 => Some((b"sendidexpr", Key::Sendidexpr)),
+        71 => Some((b"delay", Key::Delay)),
+        40 => Some((b"delayexpr", Key::Delayexpr)),
+        29 => Some((b"location", Key::Location)),
+        2 => Some((b"label", Key::Label)),
+        _ => None,
     }
 }
 
-// A key's number, or 0 where the key is none of them.
-pub fn key_of(key: &[u8]) -> u32
-    ensures { result ≡ key_of key.now }
+// The key that a name is, if it is one.
+pub fn key_of(key: &[u8]) -> Option<Key>
+    ensures { key_code result ≡ key_of key.now }
 {
-    if key.len() < 2 {
-        return 0;
-    }
-    if 11 < key.len() {
-        return 0;
-    }
-    key_marked(mark_of(key), key)
+    let (name, found) = known(mark_of(key)?)?;
+    only(name, key, found)
 }

@@ -1,31 +1,20 @@
--- What the loops over lines and heads need of the definitions, at a part of a list that starts at i.
+-- What heads and the loop over a stream's lines need of the definitions.
 use mathlib.Core.Path.{◌≡◌, refl, sym, ap, ◌∙◌, subst}
-use mathlib.Core.Bool.{Bool, true, false, ◌&&◌, and_assoc, and-true, and-eq-true_iff}
+use mathlib.Core.Bool.{Bool, true, false, ◌&&◌, and-eq-true_iff}
 use mathlib.Core.Option.{none}
 use mathlib.Core.List.{List, [], ◌∷◌, ◌++◌, append-nil, append_assoc}
-use Prim.Native.Nat.{ℕ, suc, ◌+◌, ◌-◌, ◌≤◌, ◌<◌}
+use Prim.Native.Nat.{ℕ, suc, ◌+◌, ◌≤◌, ◌<◌}
 use native.Mathlib.Numerals.{add-one}
 use native.Mathlib.Omega.{arith}
 use lib.Dec.{eqb}
-use lib.ListN.{length, get_or, take, drop, drop_of_length-le, length-drop}
+use lib.ListN.{length, get_or, take, drop, drop_of_length-le}
 use lib.Seq.{drop-cons, drop-drop}
-use borrow.Author.Tests.{ne_eqb, eq-eqb, eqb-true, eqb-false}
+use lib.Pointwise.{pointwise}
+use Rattle.std.proofs.Common.{nat_eq}
+use borrow.Author.Tests.{ne_eqb}
 use Rattle.definition.specs.Text.{str}
 use Rattle.definition.specs.Event.{after, begins_event, flush, cut, events_of}
 use Rattle.lines.specs.Lines.{line_length, has_head, rest_length, event_length}
-
-module _ (s : List ℕ) (i : ℕ) where
-  pub line_more : i < length s → (get_or s i 0 ≡ 10 → ⊥) → i + 1 + line_length (drop (i + 1) s) ≡ i + line_length (drop i s)
-  unfolding line_length
-  line_more h e = rw (drop-cons s i 0 h, ne_eqb _ _ e, line_length, add-one) (omega arith)
-
-  pub line_stop : i < length s → get_or s i 0 ≡ 10 → i ≡ i + line_length (drop i s)
-  unfolding line_length
-  line_stop h e = rw (drop-cons s i 0 h, eq-eqb _ _ e, line_length) (omega arith)
-
-  pub line_end : length s ≤ i → i ≡ i + line_length (drop i s)
-  unfolding line_length
-  line_end h = rw (drop_of_length-le s h) (omega arith)
 
 pub head_next : (x y : ℕ) (h l : List ℕ) → eqb x y ≡ true → has_head (x ∷ h) (y ∷ l) ≡ has_head h l
 unfolding has_head after
@@ -35,47 +24,16 @@ pub head_other : (x y : ℕ) (h l : List ℕ) → eqb x y ≡ false → has_head
 unfolding has_head after
 head_other x y h l e = let z : after (x ∷ h) (y ∷ l) ≡ none = rw (e, after) in rw (z, has_head)
 
-short_head : (h l : List ℕ) → length l < length h → has_head h l ≡ false
+-- A head is a line's first bytes.
+pub head_starts : (h l : List ℕ) → pointwise nat_eq h (take (length h) l) ≡ has_head h l
 unfolding has_head after
-short_head [] l k = absurd (omega arith)
-short_head (x ∷ h) [] k = refl
-short_head (x ∷ h) (y ∷ l) k = go (eqb x y) refl (short_head h l (omega arith))
+head_starts [] l = refl
+head_starts (x ∷ h) [] = refl
+head_starts (x ∷ h) (y ∷ l) = go (eqb x y) refl (head_starts h l)
   where
-    go : (p : Bool) → eqb x y ≡ p → has_head h l ≡ false → has_head (x ∷ h) (y ∷ l) ≡ false
-    go true e ih = head_next x y h l e ∙ ih
-    go false e ih = head_other x y h l e
-
-module _ (s : List ℕ) (i : ℕ) where
-  pub no_head : (h : List ℕ) → i ≤ length s → length s - i < length h → false ≡ has_head h (drop i s)
-  no_head h l k = sym (short_head h (drop i s) (omega (arith, length-drop i s)))
-
-  head_step : (x : ℕ) (h : List ℕ) (j : ℕ) → j < length s → has_head (x ∷ h) (drop j s) ≡ (eqb (get_or s j 0) x && has_head h (drop (suc j) s))
-  head_step x h j l = go (eqb (get_or s j 0) x) refl
-    where
-      go : (p : Bool) → eqb (get_or s j 0) x ≡ p → has_head (x ∷ h) (drop j s) ≡ (eqb (get_or s j 0) x && has_head h (drop (suc j) s))
-      go true e = rw (e, drop-cons s j 0 l) (head_next x (get_or s j 0) h (drop (suc j) s) (eq-eqb x (get_or s j 0) (sym (eqb-true (get_or s j 0) x e))))
-      go false e = rw (e, drop-cons s j 0 l) (head_other x (get_or s j 0) h (drop (suc j) s) (ne_eqb x (get_or s j 0) (λ f. eqb-false (get_or s j 0) x e (sym f))))
-
-  -- A head compared byte by byte, as code writes it that looks at each of them: k bytes are found to be p.
-  unfoldable pub compared : List ℕ → ℕ → Bool → Bool
-  compared [] k p = p
-  compared (x ∷ h) k p = compared h (suc k) (p && eqb (get_or s (i + k) 0) x)
-
-  compared_head : (h : List ℕ) (k : ℕ) (p : Bool) → i + k + length h ≤ length s → compared h k p ≡ (p && has_head h (drop (i + k) s))
-  unfolding compared has_head after
-  compared_head [] k p l = sym (and-true p)
-  compared_head (x ∷ h) k p l =
-      let z : i + suc k ≡ suc (i + k) = omega arith in
-      compared_head h (suc k) (p && eqb (get_or s (i + k) 0) x) (omega arith)
-      ∙ and_assoc p (eqb (get_or s (i + k) 0) x) (has_head h (drop (i + suc k) s))
-      ∙ ap (λ (q : Bool). p && q) (ap (λ (n : ℕ). eqb (get_or s (i + k) 0) x && has_head h (drop n s)) z ∙ sym (head_step x h (i + k) (omega arith)))
-
-  pub head_at : (x : ℕ) (h : List ℕ) → i + suc (length h) ≤ length s → compared h 1 (eqb (get_or s i 0) x) ≡ has_head (x ∷ h) (drop i s)
-  head_at x h l =
-      let z : i + 1 ≡ suc i = omega arith in
-      compared_head h 1 (eqb (get_or s i 0) x) (omega arith)
-      ∙ ap (λ (n : ℕ). eqb (get_or s i 0) x && has_head h (drop n s)) z
-      ∙ sym (head_step x h i (omega arith))
+    go : (p : Bool) → eqb x y ≡ p → pointwise nat_eq h (take (length h) l) ≡ has_head h l → (p && pointwise nat_eq h (take (length h) l)) ≡ has_head (x ∷ h) (y ∷ l)
+    go true e ih = ih ∙ sym (head_next x y h l e)
+    go false e ih = sym (head_other x y h l e)
 
 -- ---- a stream
 

@@ -1,11 +1,15 @@
 -- What is asked of a block of bytes before it is passed.
-use Rattle.std.specs.Prelude.{ℕ, Bool, true, ◌&&◌, not, List, [], ◌∷◌, eqb}
+use Rattle.std.specs.Prelude.{ℕ, ◌≡◌, Bool, true, ◌&&◌, not, List, [], ◌∷◌, eqb}
 use Rattle.definition.specs.Text.{is_allowed}
 
 -- Whether `p` holds of each byte.
 unfoldable pub all : (ℕ → Bool) → List ℕ → Bool
 all p [] = true
 all p (b ∷ bs) = p b && all p bs
+
+-- What a test may answer is what `p` says.
+abbrev pub Tells : (ℕ → Bool) → (ℕ → Bool → Type 0) → Type 0
+Tells p post = (b : ℕ) (r : Bool) → post b r → r ≡ p b
 
 -- Whether a byte does not end its line.
 unfoldable pub is_within_line : ℕ → Bool

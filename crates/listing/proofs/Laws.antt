@@ -1,9 +1,8 @@
 -- A chart's lines, row by row.
-use mathlib.Core.Path.{◌≡◌, refl}
-use mathlib.Core.List.{List, [], ◌∷◌, ◌++◌}
+use mathlib.Core.Path.{◌≡◌}
+use mathlib.Core.List.{List, [], ◌++◌}
 use Prim.Native.Nat.{ℕ, suc, ◌+◌, ◌≤◌, ◌<◌}
 use native.Mathlib.Numerals.{add-one}
-use native.Mathlib.Omega.{arith}
 use lib.ListN.{length, get_or, take, drop, drop_of_length-le}
 use lib.Seq.{drop-cons}
 use borrow.Author.Tests.{ne_eqb}
@@ -15,10 +14,6 @@ use Rattle.listing.specs.Listing.{state_lines, states_from, type_word, transitio
 
 pub printed : {a b w : List ℕ} {j : ℕ} → Added a 0 b j w → (j ≤ length b) × (take j b ≡ take (length b) w)
 printed x = (x.within, x.told)
-
-pub root_none : (charts : Table) → length charts ≡ 0 → 0 ≡ num (get_or charts 0 []) 0
-root_none [] h = refl
-root_none (r ∷ rs) h = absurd (omega arith)
 
 module _ (t : ℕ) where
   pub type_internal : t ≡ 1 → str "type=internal\n" ≡ line (str "type=") (type_word t)
@@ -50,7 +45,7 @@ module _ (members rs : Table) (i : ℕ) where
 -- what is put for a chart, piece by piece
 pub chart-is :
     (charts : Table) {states transitions members s t m : Table} {text w : List ℕ} {root : ℕ} → root ≡ num (get_or charts 0 []) 0 → s ≡ states → t ≡ transitions → m ≡ members → w ≡ text
-    → line (str "answer=") (decimal 0) ++ line (str "root=") (decimal root) ++ line (str "states=") (decimal (length s)) ++ line (str "transitions=") (decimal (length t)) ++ states_from w m 1 states ++ transitions_from m t
+    → line (str "answer=") (decimal 0) ++ line (str "root=") (decimal root) ++ line (str "states=") (decimal (length s)) ++ line (str "transitions=") (decimal (length t)) ++ states_from w m 1 s ++ transitions_from m t
     ≡ listing charts states transitions members text
 unfolding listing
 chart-is charts e f g h k = rw (e, f, g, h, k)

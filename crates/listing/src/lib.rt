@@ -13,13 +13,14 @@ use definition::Position;
 use definition::cells::{ChartColumn, StateColumn, TransitionColumn};
 use definition::codes::ListKind;
 use printing::{put_bytes, put_list_line, put_name_line, put_number_line};
-use rows::{first_8, first_24, first_bytes, text_from};
+use rows::lent::Tables;
+use rows::text_from;
 
 fn put_cell_line(out: &mut [u8], at: usize, head: &[u8], n: u32) -> usize
     requires { at ≤ length out.old }
     ensures { Added out.old at out.new result (line head.now (decimal n)) }
 {
-    put_number_line(out, at, head, n as u64)
+    put_number_line(out, at, head, u64::from(n))
 }
 
 fn put_state(
@@ -43,7 +44,7 @@ fn put_state(
     let c = put_cell_line(out, b, b"parent=", row[StateColumn::PARENT]);
     let d = put_cell_line(out, c, b"initial=", row[StateColumn::INITIAL]);
     let e = put_cell_line(out, d, b"doc=", row[StateColumn::DOC]);
-    put_list_line(out, e, b"children=", members, ListKind::CHILDREN, n)
+    put_list_line(out, e, b"children=", members, ListKind::Children as u32, n)
 }
 
 fn put_states(
@@ -57,29 +58,11 @@ fn put_states(
     requires states_len_bound { length states.now < 4294967296 }
     ensures { Added out.old at out.new result (states_from text.now members.now 1 states.now) }
 {
-    let mut p = at;
-    let mut i = 0;
-    while i < states.len() {
-        let row = states[i];
-        i += 1;
-        p = put_state(out, p, text, members, i as u32, row);
+    let mut end = at;
+    for (i, row) in states.iter().enumerate() {
+        end = put_state(out, end, text, members, i as u32 + 1, *row);
     }
-    p
-}
-
-// The first of a table's states, as far as there are so many.
-fn put_first_states(
-    out: &mut [u8],
-    at: usize,
-    text: &[u8],
-    members: &[[u32; 8]],
-    states: &[[u32; 24]],
-    count: u32,
-) -> usize
-    requires { at ≤ length out.old }
-    ensures { Added out.old at out.new result (states_from text.now members.now 1 (take count states.now)) }
-{
-    put_states(out, at, text, members, first_24(states, count))
+    end
 }
 
 fn put_type_line(out: &mut [u8], at: usize, t: u32) -> usize
@@ -103,7 +86,7 @@ fn put_transition(out: &mut [u8], at: usize, members: &[[u32; 8]], row: [u32; 8]
         b,
         b"targets=",
         members,
-        ListKind::TARGETS,
+        ListKind::Targets as u32,
         row[TransitionColumn::NUMBER],
     );
     let d = put_type_line(out, c, row[TransitionColumn::TYPE]);
@@ -120,47 +103,34 @@ fn put_transitions(
     requires { at ≤ length out.old }
     ensures { Added out.old at out.new result (transitions_from members.now transitions.now) }
 {
-    let mut p = at;
-    let mut i = 0;
-    while i < transitions.len() {
-        p = put_transition(out, p, members, transitions[i]);
-        i += 1;
+    let mut end = at;
+    for row in transitions {
+        end = put_transition(out, end, members, *row);
     }
-    p
+    end
 }
 
 fn root_of(charts: &[[u32; 24]]) -> u32
     ensures { result ≡ num (get_or charts.now 0 []) 0 }
 {
-    if charts.len() == 0 {
-        return 0;
+    match charts.first() {
+        Some(row) => row[ChartColumn::ROOT],
+        None => 0,
     }
-    charts[0][ChartColumn::ROOT]
 }
 
 /// The rows in use, listed: how many bytes of the buffer are to be printed, and what they are.
-pub fn put_chart(
-    out: &mut [u8],
-    charts: &[[u32; 24]],
-    states: &[[u32; 24]],
-    transitions: &[[u32; 8]],
-    members: &[[u32; 8]],
-    text: &[u8],
-    p: Position,
-) -> usize
+pub fn put_chart(out: &mut [u8], tables: Tables<'_>, p: Position) -> usize
     ensures upper_bound { result ≤ length out.new }
-    ensures out_after { take result out.new ≡ take (length out.new) (listing charts.now (take p.states states.now) (take p.transitions transitions.now) (take p.members members.now) (take p.used text.now)) }
+    ensures out_after { take result out.new ≡ take (length out.new) (listing tables.entry.chart.now (take p.states tables.entry.states.now) (take p.transitions tables.entry.transitions.now) (take p.members tables.entry.members.now) (take p.used tables.entry.text.now)) }
 {
-    let s = first_24(states, p.states);
-    let t = first_8(transitions, p.transitions);
-    let m = first_8(members, p.members);
-    let w = first_bytes(text, p.used);
+    let used = tables.in_use(p);
     let a = put_cell_line(out, 0, b"answer=", 0);
-    let b = put_cell_line(out, a, b"root=", root_of(charts));
-    let c = put_number_line(out, b, b"states=", s.len() as u64);
-    let d = put_number_line(out, c, b"transitions=", t.len() as u64);
-    let e = put_first_states(out, d, w, m, states, p.states);
-    put_transitions(out, e, m, t)
+    let b = put_cell_line(out, a, b"root=", root_of(tables.chart));
+    let c = put_number_line(out, b, b"states=", used.states.len() as u64);
+    let d = put_number_line(out, c, b"transitions=", used.transitions.len() as u64);
+    let e = put_states(out, d, used.text, used.members, used.states);
+    put_transitions(out, e, used.members, used.transitions)
 }
 
 pub fn put_refusal(out: &mut [u8], number: u32, event: u64) -> usize

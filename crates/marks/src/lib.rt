@@ -2,34 +2,28 @@
 
 #![tactic(auto)]
 
-ghost use Rattle.std.specs.Prelude.{◌≡◌, ◌<◌, ◌≤◌, length};
+ghost use Rattle.std.specs.Prelude.{◌≡◌, MatchOption};
+ghost use Rattle.std.specs.Bool.{then_some};
 ghost use Rattle.definition.specs.Text.{same};
-ghost use Rattle.marks.specs.Marks.{mark, number_if};
+ghost use Rattle.marks.specs.Marks.{mark, IsSized};
 
-fn byte(x: u8) -> usize
-    ensures value { result ≡ x }
-    ensures upper_bound { result < 256 }
-{
-    x as usize
-}
+use text::same;
 
-// A number below 128 that tells all known names apart: by its length, its second and its last byte.
-pub fn mark_of(name: &[u8]) -> u32
-    requires { (2 ≤ length name.now) × (length name.now ≤ 11) }
-    ensures { result ≡ mark name.now }
+// A number below 128 that tells all known names apart: by its length, its second and its last byte. Names that are shorter or longer than all known ones have none.
+#[tactic(auto, unfolding(crate::specs::Marks::mark))]
+pub fn mark_of(name: &[u8]) -> Option<u32>
+    ensures { MatchOption result (IsSized name.now → ⊥) (λ m. m ≡ mark name.now) }
 {
     let n = name.len();
-    let second = byte(name[1]);
-    let last = byte(name[n - 1]);
-    ((n + last * 5 + second) % 128) as u32
+    if n < 2 || 11 < n {
+        return None;
+    }
+    Some(((n + name[n - 1] as usize * 5 + name[1] as usize) % 128) as u32)
 }
 
-// A name's number, if it is the known one.
-pub fn only(known: &[u8], name: &[u8], number: u32) -> u32
-    ensures { result ≡ number_if (same known.now name.now) number }
+// What a known name stands for, if the name is the known one.
+pub fn only<T: Copy>(known: &[u8], name: &[u8], value: T) -> Option<T>
+    ensures { result ≡ then_some (same known.now name.now) value }
 {
-    if text::same(known, name) {
-        return number;
-    }
-    0
+    same(known, name).then_some(value)
 }

@@ -1,4 +1,4 @@
-// The small record of the open element, lent and changed where it is. A struct behind a reference is proved by hand, so whoever needs the record by value calls `opened` or `outside`.
+// The small record of the open element, lent and changed where it is; `opened` and `outside` give it by value.
 
 #![tactic(auto)]
 
@@ -14,34 +14,36 @@ pub struct Open {
     pub tag: u32,
 }
 
-/// An element begins: what comes next is inside it.
-pub fn push(element: &mut Open, state: StateId, transition: TransitionId, tag: u32)
-    ensures { element.new ≡ record { state = state; transition = transition; tag = tag } }
-{
-    element.state = state;
-    element.transition = transition;
-    element.tag = tag;
-}
+impl Open {
+    /// An element begins: what comes next is inside it.
+    pub fn push(&mut self, state: StateId, transition: TransitionId, tag: u32)
+        ensures { self.new ≡ record { state = state; transition = transition; tag = tag } }
+    {
+        *self = Open {
+            state,
+            transition,
+            tag,
+        };
+    }
 
-/// Nothing is open any more: the numbers of no state, no transition and no tag.
-pub fn pop(element: &mut Open)
-    ensures { element.new ≡ record { state = record { 0 = 0 }; transition = record { 0 = 0 }; tag = 0 } }
-{
-    element.state = StateId(0);
-    element.transition = TransitionId(0);
-    element.tag = 0;
+    /// Nothing is open any more: the numbers of no state, no transition and no tag.
+    pub fn pop(&mut self)
+        ensures { self.new ≡ record { state = record { 0 = 0 }; transition = record { 0 = 0 }; tag = 0 } }
+    {
+        *self = Open {
+            state: StateId(0),
+            transition: TransitionId(0),
+            tag: 0,
+        };
+    }
 }
 
 /// The record inside an element.
 pub fn opened(state: StateId, transition: TransitionId, tag: u32) -> Open
     ensures { result ≡ record { state = state; transition = transition; tag = tag } }
 {
-    let mut element = Open {
-        state: StateId(0),
-        transition: TransitionId(0),
-        tag: 0,
-    };
-    push(&mut element, state, transition, tag);
+    let mut element = outside();
+    element.push(state, transition, tag);
     element
 }
 
@@ -54,6 +56,6 @@ pub fn outside() -> Open
         transition: TransitionId(0),
         tag: 0,
     };
-    pop(&mut element);
+    element.pop();
     element
 }

@@ -17,8 +17,11 @@ use Rattle.definition.specs.Look.{find_name, name_cells, open_name}
 use Rattle.definition.specs.Actions.{place_of_number}
 use Rattle.definition.specs.Rules.{rises, none_in, names_lead, is_block, blocks_in, open_tags_fit, unknown_fits, open_names_fit}
 use Rattle.definition.proofs.Base.{same_refl, same_eq}
-use Rattle.columns.specs.Sees.{Rising}
+use Rattle.columns.specs.Rising.{Rising}
 use Rattle.columns.proofs.Numbers.{number_at, place_none, place_some}
+use Rattle.std.specs.Prelude.{count_by}
+use Rattle.std.proofs.lemmas.List.Recursion.{is_count_by}
+use mathlib.Core.Bool.{cond}
 use Rattle.order.specs.Hash.{hash_from, hash_of, name_of, Hashed}
 
 both : (a b : Bool) → elim a [ true ↦ b | false ↦ false ] ≡ true → (a ≡ true) × (b ≡ true)
@@ -57,7 +60,6 @@ rising_from low (r ∷ rs) e zero (suc j) h k = over (num r 0) rs (both (ltb low
 rising_from low (r ∷ rs) e (suc i) (suc j) h k = rising_from (num r 0) rs (both (ltb low (num r 0)) (rises (num r 0) rs) e).1 i j (omega arith) (omega arith)
 
 pub rising : (t : Table) → rises 0 t ≡ true → Rising t
-unfolding Rising
 rising t e = rising_from 0 t e
 
 -- ---- numbers that others have: one walk along two rising tables
@@ -76,7 +78,6 @@ none_all us (r ∷ t) f = rw (eq-eqb _ _ (f 0 (omega arith)), none_in) (none_all
 
 -- Along a rising table a later number is not below an earlier one.
 not_below : (t : Table) → Rising t → (j k : ℕ) → j ≤ k → k < length t → number_at t j ≤ number_at t k
-unfolding Rising
 not_below t up j k h l = go (eqb j k) refl
   where
     go : (b : Bool) → eqb j k ≡ b → number_at t j ≤ number_at t k
@@ -111,7 +112,7 @@ module _ (us t : Table) (upper : Rising us) (up : Rising t) (i j : ℕ) (w : Wal
         under k m n = omega (arith, not_below us upper k j (omega arith) l)
 
     pub walk_along : (number_at us j ≡ number_at t i → ⊥) → number_at t i ≤ number_at us j → Walk us t (i + 1) j
-    unfolding none_in Rising
+    unfolding none_in
     walk_along f e = record { along = omega arith; beside = w.beside; rest = passed ∙ w.rest; below = under }
       where
         none : place_of_number us (number_at t i) ≡ 0
@@ -250,18 +251,13 @@ block_is g = go (eqb g 24) (eqb g 25)
     go false true = refl
     go false false = refl
 
-module _ (c : ℕ) (t : Table) (i : ℕ) {b : Bool} (e : b ≡ is_block (num (get_or t i []) c)) (h : i < length t) where
-  pub blocks_yes : b ≡ true → blocks_in c (drop i t) ≡ suc (blocks_in c (drop (i + 1) t))
-  unfolding blocks_in
-  blocks_yes f = rw (add-one, drop-cons t i [] h, blocks_in, ← e, f, blocks_in)
-
-  pub blocks_no : b ≡ false → blocks_in c (drop i t) ≡ blocks_in c (drop (i + 1) t)
-  unfolding blocks_in
-  blocks_no f = rw (add-one, drop-cons t i [] h, blocks_in, ← e, f, blocks_in)
-
-pub blocks_end : (c : ℕ) (t : Table) (i : ℕ) → length t ≤ i → blocks_in c (drop i t) ≡ 0
+pub blocks_by : (c : ℕ) (t : Table) → count_by (λ (r : List ℕ). is_block (num r c)) t ≡ blocks_in c t
 unfolding blocks_in
-blocks_end c t i h = rw (drop_of_length-le t h)
+blocks_by c t = sym (is_count_by (blocks_in c) (λ (r : List ℕ). is_block (num r c)) refl (λ r rs. go (is_block (num r c)) (blocks_in c rs)) t)
+  where
+    go : (b : Bool) (n : ℕ) → elim b [ true ↦ suc n | false ↦ n ] ≡ cond b (1 + n) n
+    go true n = omega arith
+    go false n = refl
 
 module _ (g : ℕ) (t : Table) (i : ℕ) {b : Bool} (e : b ≡ is_block (num (get_or t i []) 1)) (h : i < length t) where
   pub tags_more : (b || (eqb (num (get_or t i []) 1) 13 && eqb g 24)) ≡ true → open_tags_fit (num (get_or t i []) 1) (drop (i + 1) t) ≡ open_tags_fit g (drop i t)

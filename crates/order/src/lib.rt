@@ -8,15 +8,16 @@ ghost use Rattle.definition.specs.Text as T;
 ghost use Rattle.definition.specs.Rows.{free, num, text_from};
 ghost use Rattle.definition.specs.Look.{find_name, name_cells};
 ghost use Rattle.definition.specs.Rules as R;
-ghost use Rattle.columns.specs.Sees.{Rising, RowTest, RowsTest};
+ghost use Rattle.columns.specs.Rising.{Rising};
+ghost use Rattle.columns.specs.Sees.{RowTest};
 ghost use Rattle.order.specs.Hash.{hash_from, hash_of, Hashed};
 
-use columns::Known;
+use columns::numbered::Known;
 use definition::Chart;
 use definition::cells::{OpenColumn, OpenRegionColumn, StateColumn};
 use definition::codes::Tag;
 use elements::tag_of;
-use rows::{index, text_from};
+use rows::text_from;
 use text::same;
 
 /// Numbers rise along a table.
@@ -24,14 +25,11 @@ pub fn rises(t: &[[u32; 8]]) -> bool
     ensures { result ≡ R.rises 0 t.now }
 {
     let mut low = 0;
-    let mut i = 0;
-    while i < t.len() {
-        let n = t[i][0];
-        if n <= low {
+    for row in t {
+        if row[0] <= low {
             return false;
         }
-        low = n;
-        i += 1;
+        low = row[0];
     }
     true
 }
@@ -59,22 +57,13 @@ pub fn none_in(others: &[[u32; 8]], t: &[[u32; 8]]) -> bool
     true
 }
 
-fn wide(b: u8) -> u32
-    ensures value { result ≡ b }
-    ensures upper_bound { result < 256 }
-{
-    b as u32
-}
-
 // A number that equal names share.
 fn hash(name: &[u8]) -> u32
     ensures { result ≡ hash_of name.now }
 {
     let mut h = 0;
-    let mut i = 0;
-    while i < name.len() {
-        h = h % 16777216 * 31 + wide(name[i]);
-        i += 1;
+    for b in name {
+        h = h % 16777216 * 31 + u32::from(*b);
     }
     h
 }
@@ -97,21 +86,19 @@ fn find_name(text: &[u8], states: &[[u32; 24]], hashes: &[u32], h: u32, name: &[
     requires h_value { h ≡ hash_of name.now }
     ensures { result ≡ find_name text.now (name_cells states.now) name.now }
 {
-    let mut i = 0;
-    while i < states.len() {
+    for (i, row) in states.iter().enumerate() {
         if is_named(
             text,
-            states[i][StateColumn::NAME],
-            states[i][StateColumn::NAME_LENGTH],
+            row[StateColumn::NAME],
+            row[StateColumn::NAME_LENGTH],
             hashes[i],
             h,
             name,
         ) {
             return i;
         }
-        i += 1;
     }
-    i
+    states.len()
 }
 
 /// Each state's name leads to it: no state before has the same.
@@ -120,19 +107,13 @@ pub fn names_lead(text: &[u8], states: &[[u32; 24]]) -> bool
     ensures { result ≡ R.names_lead text.now (name_cells states.now) 0 (name_cells states.now) }
 {
     let mut hashes = [0u32; Chart::STATES as usize];
-    let mut i = 0;
-    while i < states.len() {
-        let name = text_from(
-            text,
-            states[i][StateColumn::NAME],
-            states[i][StateColumn::NAME_LENGTH],
-        );
+    for (i, row) in states.iter().enumerate() {
+        let name = text_from(text, row[StateColumn::NAME], row[StateColumn::NAME_LENGTH]);
         let h = hash(name);
         if find_name(text, &states[..i], &hashes, h, name) != i {
             return false;
         }
         hashes[i] = h;
-        i += 1;
     }
     true
 }
@@ -148,17 +129,7 @@ pub fn blocks_in(c: usize, t: &[[u32; 8]]) -> usize
     requires { c < 8 }
     ensures { result ≡ R.blocks_in c t.now }
 {
-    let mut n = 0;
-    let mut i = 0;
-    while i < t.len() {
-        if is_block(t[i][c]) {
-            n += 1;
-            i += 1;
-        } else {
-            i += 1;
-        }
-    }
-    n
+    t.iter().filter(|row| is_block(row[c])).count()
 }
 
 /// An open region is an if's or a foreach's, or an elseif's directly above an if's.
@@ -166,14 +137,12 @@ pub fn open_tags_fit(t: &[[u32; 8]]) -> bool
     ensures { result ≡ R.open_tags_fit 0 t.now }
 {
     let mut below = 0;
-    let mut i = 0;
-    while i < t.len() {
-        let tag = t[i][OpenRegionColumn::TAG];
+    for row in t {
+        let tag = row[OpenRegionColumn::TAG];
         if !(is_block(tag) | ((tag == Tag::ELSEIF) & (below == Tag::IF))) {
             return false;
         }
         below = tag;
-        i += 1;
     }
     true
 }
@@ -182,14 +151,14 @@ fn unknown_fits(row: [u32; 8], name: &[u8]) -> bool
     requires { length name.now ≡ 64 }
     ensures { result ≡ R.unknown_fits limits01 row name.now }
 {
-    let n = index(row[OpenColumn::LENGTH]);
+    let n = row[OpenColumn::LENGTH] as usize;
     if n < 1 {
         return false;
     }
-    if index(Chart::NAME) < n {
+    if (Chart::NAME as usize) < n {
         return false;
     }
-    tag_of(&name[..n]) == 0
+    tag_of(&name[..n]).number() == 0
 }
 
 // A known name is kept by its tag alone.
@@ -209,38 +178,17 @@ pub fn open_names_fit(opened: &[[u32; 8]], names: &[[u8; 64]]) -> bool
     if opened.len() != names.len() {
         return false;
     }
-    let mut i = 0;
-    while i < opened.len() {
-        if !open_name_fits(opened[i], names[i]) {
+    for (i, row) in opened.iter().enumerate() {
+        if !open_name_fits(*row, names[i]) {
             return false;
         }
-        i += 1;
     }
     true
 }
 
-// An open name's bytes are free. That they are 64 is known of a row by value alone, so the loop below takes each by value; the compiler drops it.
-fn name_keeps(row: [u8; 64], k: Known, transitions: &[[u32; 8]], regions: &[[u32; 8]]) -> bool
-    ensures { RowTest k transitions.now regions.now (replicate 64 free) row result }
+/// An open name's bytes are free.
+pub fn name_keeps(row: [u8; 64], k: &Known) -> bool
+    ensures { RowTest k.now (replicate 64 free) row result }
 {
-    true
-}
-
-pub fn names_keep(
-    table: &[[u8; 64]],
-    k: Known,
-    transitions: &[[u32; 8]],
-    regions: &[[u32; 8]],
-) -> bool
-    ensures { RowsTest k transitions.now regions.now (replicate 64 free) table.now result }
-{
-    let mut i = 0;
-    while i < table.len() {
-        let row = table[i];
-        if !name_keeps(row, k, transitions, regions) {
-            return false;
-        }
-        i += 1;
-    }
     true
 }

@@ -1,42 +1,39 @@
--- Attributes in rows of numbers.
-use Prim.Native.Nat.{ℕ, zero, suc, ◌+◌, ◌<◌}
-use mathlib.Core.Path.{◌≡◌, refl, ap, ap₂}
+-- Attributes as code has them, and in numbers.
+use Prim.Native.Nat.{ℕ, zero, suc, ◌<◌}
+use mathlib.Core.Path.{◌≡◌, refl, sym, ap, ap₂, ◌∙◌}
 use mathlib.Core.List.{List, [], ◌∷◌}
 use native.Mathlib.Omega.{arith}
-use lib.ListN.{length, get_or, set, replicate}
-use Rattle.parts.specs.declared.Pair.{Pair}
+use lib.ListN.{length, get_or, set, take, replicate}
+use lib.Seq.{take-nil}
+use Rattle.parts.specs.declared.Pair as code
+use Rattle.parts.specs.Walked.{Pair}
 use Rattle.parts.specs.Parts.{no_pair, pair_of, pairs_of}
 
-pub pairs_length : (rs : List (List ℕ)) → length (pairs_of rs) ≡ length rs
+pub pairs_length : (ps : List code.Pair) → length (pairs_of ps) ≡ length ps
 unfolding pairs_of
 pairs_length [] = refl
-pairs_length (r ∷ rs) = ap suc (pairs_length rs)
+pairs_length (p ∷ ps) = ap suc (pairs_length ps)
 
-pub pairs_set : (rs : List (List ℕ)) (i : ℕ) (r : List ℕ) → pairs_of (set rs i r) ≡ set (pairs_of rs) i (pair_of r)
+pub pairs_set : (ps : List code.Pair) (i : ℕ) (p : code.Pair) → pairs_of (set ps i p) ≡ set (pairs_of ps) i (pair_of p)
 unfolding pairs_of
-pairs_set [] i r = refl
-pairs_set (x ∷ rs) zero r = refl
-pairs_set (x ∷ rs) (suc i) r = ap (λ (ps : List Pair). pair_of x ∷ ps) (pairs_set rs i r)
+pairs_set [] i p = refl
+pairs_set (x ∷ ps) zero p = refl
+pairs_set (x ∷ ps) (suc i) p = ap (λ (qs : List Pair). pair_of x ∷ qs) (pairs_set ps i p)
 
-pub pairs_at : (rs : List (List ℕ)) (i : ℕ) → pair_of (get_or rs i []) ≡ get_or (pairs_of rs) i no_pair
-unfolding pairs_of pair_of
-pairs_at [] i = refl
-pairs_at (r ∷ rs) zero = refl
-pairs_at (r ∷ rs) (suc i) = pairs_at rs i
+pub pairs_at : (ps : List code.Pair) (i : ℕ) (d : code.Pair) → i < length ps → pair_of (get_or ps i d) ≡ get_or (pairs_of ps) i no_pair
+unfolding pairs_of
+pairs_at [] i d h = absurd (omega arith)
+pairs_at (p ∷ ps) zero d h = refl
+pairs_at (p ∷ ps) (suc i) d h = pairs_at ps i d (omega arith)
 
--- Rows of zeros are no attributes.
-pub pairs_none : (n : ℕ) (rs : List (List ℕ)) → length rs ≡ n → ((j : ℕ) → j < n → get_or rs j [] ≡ replicate 8 0) → pairs_of rs ≡ replicate n no_pair
-unfolding pairs_of pair_of
-pairs_none zero [] e h = refl
-pairs_none zero (r ∷ rs) e h = absurd (omega (arith, e))
-pairs_none (suc n) [] e h = absurd (omega (arith, e))
-pairs_none (suc n) (r ∷ rs) e h =
-    ap₂ (λ (p : Pair) (ps : List Pair). p ∷ ps) (ap pair_of (h 0 (omega arith))) (pairs_none n rs (omega (arith, e)) (λ j k. h (suc j) (omega (arith, k))))
+-- No attribute in any place.
+pub pairs_none : (n : ℕ) (p : code.Pair) → pair_of p ≡ no_pair → pairs_of (replicate n p) ≡ replicate n no_pair
+unfolding pairs_of
+pairs_none zero p e = refl
+pairs_none (suc n) p e = ap₂ (λ (q : Pair) (qs : List Pair). q ∷ qs) e (pairs_none n p e)
 
--- One row more of those before i + 1 is r.
-pub rows_set : (rs : List (List ℕ)) (i : ℕ) (r : List ℕ) → i < length rs → ((j : ℕ) → j < i → get_or rs j [] ≡ r) → (j : ℕ) → j < i + 1 → get_or (set rs i r) j [] ≡ r
-rows_set [] i r h e j k = absurd (omega (arith, h))
-rows_set (x ∷ rs) zero r h e zero k = refl
-rows_set (x ∷ rs) zero r h e (suc j) k = absurd (omega (arith, k))
-rows_set (x ∷ rs) (suc i) r h e zero k = e 0 (omega arith)
-rows_set (x ∷ rs) (suc i) r h e (suc j) k = rows_set rs i r (omega (arith, h)) (λ m l. e (suc m) (omega (arith, l))) j (omega (arith, k))
+pub pairs_take : (ps : List code.Pair) (n : ℕ) → pairs_of (take n ps) ≡ take n (pairs_of ps)
+unfolding pairs_of
+pairs_take [] n = ap pairs_of (take-nil n) ∙ sym (take-nil n)
+pairs_take (p ∷ ps) zero = refl
+pairs_take (p ∷ ps) (suc n) = ap (λ (qs : List Pair). pair_of p ∷ qs) (pairs_take ps n)

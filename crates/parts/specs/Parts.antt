@@ -1,9 +1,10 @@
 -- What an event's lines have brought: each part by where it is written, and the numbers of its element and keys.
-use Rattle.std.specs.Prelude.{ℕ, ◌+◌, min, Bool, true, false, List, [], ◌∷◌, set, get_or, replicate, ltb}
+use Rattle.std.specs.Prelude.{ℕ, ◌+◌, min, Bool, true, false, List, [], ◌∷◌, set, replicate, ltb, Option, Some, None}
 use Rattle.definition.specs.Limits.{limits01}
 use Rattle.parts.specs.declared.Part.{Part}
-use Rattle.parts.specs.declared.Pair.{Pair}
-use Rattle.parts.specs.Walked.{Walked}
+use Rattle.definition.specs.Codes.{kind_code, tag_number, key_code}
+use Rattle.parts.specs.declared.Pair as code
+use Rattle.parts.specs.Walked.{Walked, Pair}
 use Rattle.parts.specs.declared.Heading.{Heading}
 
 abbrev pub part_at : ℕ → ℕ → ℕ → Part
@@ -128,28 +129,53 @@ unfoldable pub added_value : Part → Walked → Walked
 unfolding room_left with_value broken
 added_value p d = elim (room_left d.count) [ true ↦ with_value p d | false ↦ broken d ]
 
--- ---- attributes in rows of numbers: a key's number, then both parts
+-- ---- what the code has, in numbers
 
-unfoldable pub pair_of : List ℕ → Pair
-pair_of r = record { code = get_or r 0 0; key = part_at (get_or r 1 0) (get_or r 2 0) (get_or r 3 0); value = part_at (get_or r 4 0) (get_or r 5 0) (get_or r 6 0) }
+unfoldable pub pair_of : code.Pair → Pair
+pair_of p = record { code = key_code p.code; key = p.key; value = p.value }
 
-unfoldable pub pairs_of : List (List ℕ) → List Pair
+unfoldable pub pairs_of : List code.Pair → List Pair
 unfolding pair_of
 pairs_of [] = []
-pairs_of (r ∷ rs) = pair_of r ∷ pairs_of rs
+pairs_of (p ∷ ps) = pair_of p ∷ pairs_of ps
 
--- What a heading and the rows beside it say together, where no key awaits its value.
-unfoldable pub walked_by : Heading → List (List ℕ) → Walked
-unfolding pairs_of
-walked_by h rs =
+-- 4 after a text, 2 without one; and the text.
+abbrev pub next_of : Option Part → ℕ
+next_of None = 2
+next_of (Some t) = 4
+
+abbrev pub text_of : Option Part → Part
+text_of None = part_at 0 0 0
+text_of (Some t) = t
+
+-- What a heading and the attributes beside it say together, where no key awaits its value.
+unfoldable pub made_by : Heading → List Pair → Walked
+made_by h ps =
     record {
-      next = h.next;
-      kind = h.kind;
-      tag = h.tag;
+      next = next_of h.text;
+      kind = kind_code h.kind;
+      tag = tag_number h.tag;
       name = h.name;
       code = 0;
       key = part_at 0 0 0;
       count = h.count;
-      pairs = pairs_of rs;
-      text = h.text;
+      pairs = ps;
+      text = text_of h.text;
     }
+
+-- Without a heading the event is out of form.
+unfoldable pub walked_by : Option Heading → List code.Pair → Walked
+unfolding made_by pairs_of
+walked_by None ps =
+    record {
+      next = 5;
+      kind = 0;
+      tag = 0;
+      name = part_at 0 0 0;
+      code = 0;
+      key = part_at 0 0 0;
+      count = 0;
+      pairs = pairs_of ps;
+      text = part_at 0 0 0;
+    }
+walked_by (Some h) ps = made_by h (pairs_of ps)

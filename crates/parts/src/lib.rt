@@ -2,11 +2,13 @@
 
 #![tactic(auto)]
 
-ghost use Rattle.std.specs.Prelude.{◌≡◌, ◌^◌, ◌<◌, ◌≤◌, length, get_or, set};
+ghost use Rattle.std.specs.Prelude.{◌≡◌, ◌^◌, ◌<◌, ◌≤◌, length};
+ghost use Rattle.definition.specs.Codes.{kind_code, key_code};
 ghost use Rattle.definition.specs.Text.{place_in};
 ghost use Rattle.definition.specs.Event.{kind_names};
-ghost use Rattle.parts.specs.Parts.{part_at, no_pair, no_pairs, pairs_of, at_most16};
+ghost use Rattle.parts.specs.Parts.{part_at, no_pair, no_pairs, pair_of, pairs_of, at_most16};
 
+use definition::codes::{Key, Kind, Tag};
 use text::same;
 
 // A part of an event: where it is written, in how many bytes, and its unescaped length. Small, since descriptions go by value.
@@ -17,49 +19,50 @@ pub struct Part {
     pub size: u16,
 }
 
-// An attribute: its key's number, 0 where the key is unknown, and both parts.
+// An attribute: its key, where it is known, and both parts.
 #[derive(Clone, Copy)]
 pub struct Pair {
-    pub code: u32,
+    pub code: Option<Key>,
     pub key: Part,
     pub value: Part,
 }
 
-// What all lines have brought but the attributes: those stand in rows that are lent, since as a part of this they would be copied from stage to stage.
-// `next` is 4 after a text and 2 without one, 5 where the event is out of form; the first `count` rows are the attributes, in order.
+impl Pair {
+    #[tactic(auto, unfolding(crate::specs::Parts::pair_of))]
+    pub fn new(code: Option<Key>, key: Part, value: Part) -> Pair
+        ensures { pair_of result ≡ record { code = key_code code; key = key; value = value } }
+    {
+        Pair { code, key, value }
+    }
+}
+
+// What all lines of an event in form have brought but the attributes: those stand in a slice that is lent, since as a part of this they would be copied from
+// stage to stage. The first `count` of them are the attributes, in order. `kind` is there where its word names one.
 #[derive(Clone, Copy)]
 pub struct Heading {
-    pub next: u32,
-    pub kind: u32,
-    pub tag: u32,
+    pub kind: Option<Kind>,
+    pub tag: Tag,
     pub name: Part,
     pub count: usize,
-    pub text: Part,
+    pub text: Option<Part>,
 }
 
-// The kind that a word names, from 0; 4 if none.
-pub fn kind_of(word: &[u8]) -> u32
-    ensures { result ≡ place_in kind_names word.now }
+// The kind that a word names.
+#[tactic(auto, unfolding(definition::specs::Text::place_in, definition::specs::Text::str, definition::specs::Event::kind_names))]
+pub fn kind_of(word: &[u8]) -> Option<Kind>
+    ensures { kind_code result ≡ place_in kind_names word.now }
 {
     if same(b"open", word) {
-        return 0;
+        Some(Kind::Open)
+    } else if same(b"empty", word) {
+        Some(Kind::Empty)
+    } else if same(b"whole", word) {
+        Some(Kind::Whole)
+    } else if same(b"end", word) {
+        Some(Kind::End)
+    } else {
+        None
     }
-    if same(b"empty", word) {
-        return 1;
-    }
-    if same(b"whole", word) {
-        return 2;
-    }
-    if same(b"end", word) {
-        return 3;
-    }
-    4
-}
-
-pub fn wide(x: u32) -> usize
-    ensures { result ≡ x }
-{
-    x as usize
 }
 
 // A place or a length in an event.
@@ -67,7 +70,7 @@ pub fn place(x: u16) -> usize
     ensures value { result ≡ x }
     ensures upper_bound { result < 2 ^ 16 }
 {
-    x as usize
+    usize::from(x)
 }
 
 pub fn no_part() -> Part
@@ -80,61 +83,19 @@ pub fn no_part() -> Part
     }
 }
 
-// An attribute in a row of a slice that is lent: its key's number, then both parts.
-pub fn put_pair(pairs: &mut [[u16; 8]], i: usize, p: Pair)
-    requires { (i < length pairs.old) × (p.code < 2 ^ 16) }
-    ensures { pairs_of pairs.new ≡ set (pairs_of pairs.old) i p }
+// No attribute.
+pub fn no_pair() -> Pair
+    ensures { pair_of result ≡ no_pair }
 {
-    let key = p.key;
-    let value = p.value;
-    let mut row = [0u16; 8];
-    row[0] = p.code as u16;
-    row[1] = key.at;
-    row[2] = key.len;
-    row[3] = key.size;
-    row[4] = value.at;
-    row[5] = value.len;
-    row[6] = value.size;
-    pairs[i] = row;
-}
-
-fn number(x: u16) -> u32
-    ensures { result ≡ x }
-{
-    x as u32
-}
-
-pub fn pair_at(pairs: &[[u16; 8]], i: usize) -> Pair
-    requires { i < length pairs.now }
-    ensures { result ≡ get_or (pairs_of pairs.now) i no_pair }
-{
-    let key = Part {
-        at: pairs[i][1],
-        len: pairs[i][2],
-        size: pairs[i][3],
-    };
-    let value = Part {
-        at: pairs[i][4],
-        len: pairs[i][5],
-        size: pairs[i][6],
-    };
-    Pair {
-        code: number(pairs[i][0]),
-        key: key,
-        value: value,
-    }
+    Pair::new(None, no_part(), no_part())
 }
 
 // No attribute in any of the 16 places.
-pub fn clear(pairs: &mut [[u16; 8]])
+pub fn clear(pairs: &mut [Pair])
     requires { length pairs.old ≡ 16 }
     ensures { pairs_of pairs.new ≡ no_pairs }
 {
-    let mut i = 0;
-    while i < 16 {
-        pairs[i] = [0u16; 8];
-        i += 1;
-    }
+    pairs.fill(no_pair());
 }
 
 // How many of an event's 16 places a loop goes through. It is computed before the loop, since the compiler writes a loop to 16, with an exit at the count, out
@@ -143,8 +104,5 @@ pub fn at_most_16(count: usize) -> usize
     ensures value { result ≡ at_most16 count }
     ensures upper_bound { result ≤ 16 }
 {
-    if count < 16 {
-        return count;
-    }
-    16
+    count.min(16)
 }

@@ -5,11 +5,11 @@ use mathlib.Core.List.{List, [], ◌∷◌, ◌++◌, append_assoc, append-nil}
 use native.Mathlib.Nat.{add-zero}
 use native.Mathlib.Numerals.{add-one}
 use native.Mathlib.Omega.{arith}
-use lib.ListN.{length, get_or, set, take, drop, length-append, length-drop, take-append-drop}
-use lib.Seq.{paste, paste-suc, length-paste, take-length, length-take-le, take-suc, take_at, drop_at, drop-drop, take-add}
+use lib.ListN.{length, get_or, take, drop, length-append, length-drop, take-append-drop}
+use lib.Seq.{take-length, length-take-le, take-suc, take_at, drop_at, drop-drop, take-add}
 use Rattle.definition.specs.Look.{Load, payload}
-use Rattle.parts.specs.Parts.{at_most16}
-use Rattle.parts.proofs.MostLaws.{take_most}
+use Rattle.std.proofs.Common.{min}
+use Rattle.std.proofs.lemmas.List.{take_min}
 use Rattle.plain.specs.declared.Slot.{Slot}
 use Rattle.plain.specs.Plain.{slot_bytes, loads_in}
 use Rattle.plain.specs.Keyed.{no_slot}
@@ -19,19 +19,6 @@ use Rattle.payload.specs.Laid.{laid}
 -- ---- one text
 
 module _ (t : List ℕ) (at : ℕ) (v : List ℕ) (fits : at + length v ≤ length t) where
-  pub pasted : paste t at v (length v) ≡ laid t at v
-  unfolding laid
-  pasted = ap (λ (x : List ℕ). take at t ++ x ++ drop (at + length v) t) (take-length v) ∙ append_assoc (take at t) v (drop (at + length v) t)
-
-  pub paste_end : (i : ℕ) → length v ≤ i → i ≤ length v → paste t at v i ≡ laid t at v
-  paste_end i h k = let e : i ≡ length v = omega arith in ap (paste t at v) e ∙ pasted
-
-  pub paste_more : (now : List ℕ) (i : ℕ) → now ≡ paste t at v i → i < length v → set now (at + i) (get_or v i 0) ≡ paste t at v (i + 1)
-  paste_more now i e h = ap (λ (x : List ℕ). set x (at + i) (get_or v i 0)) e ∙ paste-suc t at v i 0 (omega arith) h ∙ ap (paste t at v) (sym (add-one i))
-
-  pub paste_size : (now : List ℕ) (i : ℕ) → now ≡ paste t at v i → i ≤ length v → length now ≡ length t
-  paste_size now i e h = ap length e ∙ length-paste t at v i (omega arith) h
-
   front : length (take at t) ≡ at
   front = length-take-le at t (omega arith)
 
@@ -87,37 +74,43 @@ bytes_grow src ss i k =
     ap (λ (xs : List Slot). payload (loads_in src xs)) e ∙ ap payload (loads_append src (take i ss) (take k (drop i ss))) ∙ payload_append (loads_in src (take i ss)) (loads_in src (take k (drop i ss))) in
     omega (arith, ap length z, length-append (bytes_of src ss i) (payload (loads_in src (take k (drop i ss)))))
 
-pub record Laying (t : List ℕ) (used : ℕ) (src : List ℕ) (ss : List Slot) (c : ℕ) (now : List ℕ) (pos i : ℕ) : Type 0 where
-  pub within : i ≤ at_most16 c
-  pub room : used + length (bytes_of src ss c) ≤ length t
+pub record Laying (t : List ℕ) (used : ℕ) (src : List ℕ) (ss : List Slot) (now : List ℕ) (pos i : ℕ) : Type 0 where
+  pub within : i ≤ length ss
+  pub room : used + length (payload (loads_in src ss)) ≤ length t
   pub all : now ≡ laid t used (bytes_of src ss i)
   pub ends : pos ≡ used + length (bytes_of src ss i)
 
-module _ (t : List ℕ) (used : ℕ) (src : List ℕ) (ss : List Slot) (c : ℕ) (long : length ss ≡ 16) where
-  pub laying_start : used + length (bytes_of src ss c) ≤ length t → Laying t used src ss c t used 0
+module _ (t : List ℕ) (used : ℕ) (src : List ℕ) (ss : List Slot) where
+  all_of : bytes_of src ss (length ss) ≡ payload (loads_in src ss)
+  all_of = ap (λ (xs : List Slot). payload (loads_in src xs)) (take-length ss)
+
+  pub laying_start : used + length (payload (loads_in src ss)) ≤ length t → Laying t used src ss t used 0
   unfolding loads_in payload
   laying_start h = record { within = omega arith; room = h; all = laid_nothing t used; ends = omega arith }
 
-  module _ (now : List ℕ) (pos i : ℕ) (L : Laying t used src ss c now pos i) where
+  module _ (now : List ℕ) (pos i : ℕ) (L : Laying t used src ss now pos i) where
+    fits_from : (j : ℕ) → j ≤ length ss → used + length (bytes_of src ss j) ≤ length t
+    fits_from j h =
+        let e : j + (length ss - j) ≡ length ss = omega arith in
+        omega (arith, L.room, bytes_grow src ss j (length ss - j), ap (λ (n : ℕ). length (bytes_of src ss n)) e, ap length all_of)
+
     fits_now : used + length (bytes_of src ss i) ≤ length t
-    fits_now = let e : i + (c - i) ≡ c = omega (arith, L.within) in omega (arith, L.room, bytes_grow src ss i (c - i), ap (λ (n : ℕ). length (bytes_of src ss n)) e)
+    fits_now = fits_from i L.within
 
     pub laying_size : length now ≡ length t
     laying_size = ap length L.all ∙ laid_length t used (bytes_of src ss i) fits_now
 
-    module _ (h : i < at_most16 c) (v : List ℕ) (ev : v ≡ slot_bytes src (get_or ss i no_slot)) where
+    module _ (h : i < length ss) (v : List ℕ) (ev : v ≡ slot_bytes src (get_or ss i no_slot)) where
       next : bytes_of src ss (i + 1) ≡ bytes_of src ss i ++ v
-      next = bytes_next src ss i (omega (arith, long)) ∙ ap (λ (x : List ℕ). bytes_of src ss i ++ x) (sym ev)
+      next = bytes_next src ss i h ∙ ap (λ (x : List ℕ). bytes_of src ss i ++ x) (sym ev)
 
       longer : length (bytes_of src ss (i + 1)) ≡ length (bytes_of src ss i) + length v
       longer = ap length next ∙ length-append (bytes_of src ss i) v
 
-      pub value_fits_lem : pos + length v ≤ length now
-      value_fits_lem =
-          let e : i + 1 + (c - (i + 1)) ≡ c = omega arith in
-          omega (arith, L.room, L.ends, longer, bytes_grow src ss (i + 1) (c - (i + 1)), ap (λ (n : ℕ). length (bytes_of src ss n)) e, laying_size)
+      pub value_fits : pos + length v ≤ length now
+      value_fits = omega (arith, L.ends, longer, fits_from (i + 1) (omega arith), laying_size)
 
-      pub laying_more : (now' : List ℕ) → now' ≡ laid now pos v → Laying t used src ss c now' (pos + length v) (i + 1)
+      pub laying_more : (now' : List ℕ) → now' ≡ laid now pos v → Laying t used src ss now' (pos + length v) (i + 1)
       laying_more now' e =
           record {
             within = omega arith;
@@ -126,7 +119,12 @@ module _ (t : List ℕ) (used : ℕ) (src : List ℕ) (ss : List Slot) (c : ℕ)
             ends = omega (arith, L.ends, longer);
           }
 
-    pub laying_end : at_most16 c ≤ i → (pos ≡ used + length (bytes_of src ss c)) × (now ≡ laid t used (bytes_of src ss c))
+    pub laying_end : length ss ≤ i → (pos ≡ used + length (payload (loads_in src ss))) × (now ≡ laid t used (payload (loads_in src ss)))
     laying_end h =
-        let e : bytes_of src ss i ≡ bytes_of src ss c = ap (λ (xs : List Slot). payload (loads_in src xs)) (take_most ss c long i L.within h) in
+        let k : i ≡ length ss = omega (arith, L.within) in
+        let e : bytes_of src ss i ≡ payload (loads_in src ss) = ap (bytes_of src ss) k ∙ all_of in
         (L.ends ∙ ap (λ (x : List ℕ). used + length x) e, L.all ∙ ap (laid t used) e)
+
+-- The slots in use, of the 16 that there are.
+pub slots_in_use : (ss : List Slot) (c n : ℕ) → length ss ≡ 16 → n ≡ min c 16 → take n ss ≡ take c ss
+slots_in_use ss c n l e = ap (λ (k : ℕ). take k ss) (let z : n ≡ min c (length ss) = omega arith in z) ∙ take_min c ss

@@ -1,7 +1,7 @@
 -- Texts and names laid behind the text in use.
 use Prim.Native.Nat.{ℕ, suc, ◌+◌, ◌-◌, ◌≤◌}
 use mathlib.Core.Path.{◌≡◌, refl, sym, ap, ap₂, ◌∙◌}
-use mathlib.Core.Bool.{Bool, true, false, not, ◌&&◌}
+use mathlib.Core.Bool.{Bool, true, false, not}
 use mathlib.Core.Option.{Option, none, some}
 use mathlib.Core.List.{List, [], ◌∷◌, ◌++◌, append_assoc, append-nil}
 use native.Mathlib.Omega.{arith}
@@ -121,11 +121,18 @@ name_long made n e out room k ek = (made_length (n + 1) out room k ek ∙ sym (a
 
 -- ---- whether a name is made
 
-pub made_is : (src : List ℕ) (p : Plain) (ix : Keyed) → ix ≡ keyed_of (take p.count p.slots) → (named given : Bool) → named ≡ names_state p.tag → given ≡ is_marked ix 1
-    → (not (eqb p.kind 3) && named && not given) ≡ made_in (parsed_in src p)
-unfolding made_in is_generated parsed_in
-made_is src p ix e named given en eg =
-    ap₂ (λ (a b : Bool). not (eqb p.kind 3) && a && not b) en (marked_has src 1 (omega arith) (take p.count p.slots) ix e given eg)
+module _ (src : List ℕ) (p : Plain) where
+  pub made_never : p.kind ≡ 3 → false ≡ made_in (parsed_in src p)
+  unfolding made_in is_generated parsed_in
+  made_never e = rw (eq-eqb p.kind 3 e)
+
+  pub made_unnamed : ¬ (p.kind ≡ 3) → false ≡ names_state p.tag → false ≡ made_in (parsed_in src p)
+  unfolding made_in is_generated parsed_in
+  made_unnamed e f = rw (ne_eqb p.kind 3 e, ← f)
+
+  pub made_without : (ix : Keyed) → ix ≡ keyed_of (take p.count p.slots) → ¬ (p.kind ≡ 3) → true ≡ names_state p.tag → (given : Bool) → given ≡ is_marked ix 1 → not given ≡ made_in (parsed_in src p)
+  unfolding made_in is_generated parsed_in
+  made_without ix h e f given g = rw (ne_eqb p.kind 3 e, ← f) (ap not (marked_has src 1 (omega arith) (take p.count p.slots) ix h given g))
 
 -- ---- all of it
 

@@ -13,19 +13,30 @@ ghost use Rattle.payload.specs.Payload.{text_bytes, made_in, payload_in, charge_
 
 use definition::codes::{Key, Kind, Tag};
 use nesting::names_state;
-use parts::at_most_16;
-use plain::{Keyed, Plain, bytes_of, has};
+use plain::{Keyed, Plain, Slot, bytes_of, has};
 use written::{put_generated, put_quoted};
 
+#[tactic(auto, unfolding(crate::specs::Laid::laid))]
 pub fn put_bytes(text: &mut [u8], at: usize, v: &[u8])
     requires { at + length v.now ≤ length text.old }
     ensures { text.new ≡ laid text.old at v.now }
 {
-    let mut i = 0;
-    while i < v.len() {
-        text[at + i] = v[i];
-        i += 1;
+    text[at..at + v.len()].copy_from_slice(v);
+}
+
+// Values, in order; where they end.
+fn append_slots(text: &mut [u8], used: usize, src: &[u8], slots: &[Slot]) -> usize
+    requires { used + length (payload (loads_in src.now slots.now)) ≤ length text.old }
+    ensures value { result ≡ used + length (payload (loads_in src.now slots.now)) }
+    ensures text_after { text.new ≡ laid text.old used (payload (loads_in src.now slots.now)) }
+{
+    let mut pos = used;
+    for slot in slots {
+        let v = bytes_of(src, *slot);
+        put_bytes(text, pos, v);
+        pos += v.len();
     }
+    pos
 }
 
 // All values, in order; where they end.
@@ -34,19 +45,7 @@ pub fn append_values(text: &mut [u8], used: usize, src: &[u8], p: Plain) -> usiz
     ensures value { result ≡ used + length (payload (loads_in src.now (slots_of p))) }
     ensures text_after { text.new ≡ laid text.old used (payload (loads_in src.now (slots_of p))) }
 {
-    let count = p.count;
-    let slots = p.slots;
-    let n = at_most_16(count);
-    let mut pos = used;
-    let mut i = 0;
-    while i < n {
-        let s = slots[i];
-        let v = bytes_of(src, s);
-        put_bytes(text, pos, v);
-        pos += v.len();
-        i += 1;
-    }
-    pos
+    append_slots(text, used, src, &p.slots[..p.count.min(Plain::SLOTS)])
 }
 
 fn put_quoted_at(text: &mut [u8], pos: usize, v: &[u8]) -> usize
@@ -54,8 +53,7 @@ fn put_quoted_at(text: &mut [u8], pos: usize, v: &[u8]) -> usize
     ensures value { result ≡ pos + length (quoted v.now) }
     ensures text_after { text.new ≡ laid text.old pos (quoted v.now) }
 {
-    let n = put_quoted(&mut text[pos..], v);
-    pos + n
+    pos + put_quoted(&mut text[pos..], v)
 }
 
 fn put_name_at(text: &mut [u8], pos: usize, number: u32) -> usize
@@ -63,8 +61,7 @@ fn put_name_at(text: &mut [u8], pos: usize, number: u32) -> usize
     ensures value { result ≡ pos + length (generated_name number) }
     ensures text_after { text.new ≡ laid text.old pos (generated_name number) }
 {
-    let n = put_generated(&mut text[pos..], number);
-    pos + n
+    pos + put_generated(&mut text[pos..], number)
 }
 
 // An assign's text in its quoted form.
@@ -85,11 +82,10 @@ fn append_text(text: &mut [u8], pos: usize, src: &[u8], p: Plain) -> usize
     ensures value { result ≡ pos + length (payload (text_loads p.tag (parsed_in src.now p).text)) }
     ensures text_after { text.new ≡ laid text.old pos (payload (text_loads p.tag (parsed_in src.now p).text)) }
 {
-    if p.kind == Kind::WHOLE {
-        let v = bytes_of(src, p.text);
-        return put_text(text, pos, p.tag, v);
+    if p.kind != Kind::WHOLE {
+        return pos;
     }
-    pos
+    put_text(text, pos, p.tag, bytes_of(src, p.text))
 }
 
 fn append_name(text: &mut [u8], pos: usize, made: bool, drawn: u32) -> usize
@@ -108,9 +104,10 @@ pub fn is_made(src: &[u8], p: Plain, ix: Keyed) -> bool
     requires { ix ≡ keyed_of (slots_of p) }
     ensures { result ≡ made_in (parsed_in src.now p) }
 {
-    let named = names_state(p.tag);
-    let given = has(ix, Key::ID);
-    !(p.kind == Kind::END) & named & !given
+    if p.kind == Kind::END {
+        return false;
+    }
+    names_state(p.tag) && !has(ix, Key::ID)
 }
 
 // Where the values, the text and a generated name end.
@@ -135,13 +132,12 @@ pub fn append_event(
     ensures value { result ≡ ends_in used (parsed_in src.now p) drawn }
     ensures text_after { text.new ≡ laid text.old used (payload_in (parsed_in src.now p) drawn) }
 {
-    let one = append_values(text, used, src, p);
-    let two = append_text(text, one, src, p);
-    let three = append_name(text, two, made, drawn);
+    let values = append_values(text, used, src, p);
+    let end = append_text(text, values, src, p);
     Ends {
-        values: one,
-        text: two,
-        all: three,
+        values,
+        text: end,
+        all: append_name(text, end, made, drawn),
     }
 }
 
@@ -150,14 +146,14 @@ fn text_charge(src: &[u8], p: Plain) -> usize
     ensures value { result ≡ text_charge p.tag (parsed_in src.now p).text }
     ensures upper_bound { result ≤ 131072 }
 {
-    if p.kind == Kind::WHOLE {
-        let v = bytes_of(src, p.text);
-        if p.tag == Tag::ASSIGN {
-            return v.len() + v.len() + 2;
-        }
-        return v.len();
+    if p.kind != Kind::WHOLE {
+        return 0;
     }
-    0
+    let v = bytes_of(src, p.text);
+    if p.tag == Tag::ASSIGN {
+        return 2 * v.len() + 2;
+    }
+    v.len()
 }
 
 fn name_charge(made: bool, drawn: u32) -> usize
@@ -165,11 +161,10 @@ fn name_charge(made: bool, drawn: u32) -> usize
     ensures value { result ≡ length (payload (name_loads made (suc drawn))) }
     ensures upper_bound { result ≤ 24 }
 {
-    if made {
-        let mut out = [0u8; 24];
-        return put_generated(&mut out, drawn + 1);
+    if !made {
+        return 0;
     }
-    0
+    put_generated(&mut [0u8; 24], drawn + 1)
 }
 
 // `values`: how long all values are together.
@@ -179,7 +174,5 @@ pub fn charge(src: &[u8], p: Plain, values: usize, made: bool, drawn: u32) -> us
     ensures value { result ≡ charge_in (parsed_in src.now p) drawn }
     ensures upper_bound { result < 2097152 }
 {
-    let text = text_charge(src, p);
-    let name = name_charge(made, drawn);
-    values + text + name
+    values + text_charge(src, p) + name_charge(made, drawn)
 }

@@ -5,9 +5,8 @@ use mathlib.Core.List.{List, [], ◌∷◌, ◌++◌, append_assoc, append-nil}
 use Prim.Native.Nat.{ℕ, zero, suc, ◌+◌, ◌-◌, ◌≤◌, ◌<◌}
 use native.Mathlib.Omega.{arith}
 use lib.Dec.{eqb}
-use lib.ListN.{length, get_or, take, drop, set, length-set, length-append, length-drop, take-append-drop}
-use lib.Seq.{length-take-le, drop-cons, take-suc, take-suc-set, get_or-drop, drop-drop, drop-set-lt}
-use native.Mathlib.Numerals.{add-one}
+use lib.ListN.{length, get_or, take, drop, length-append, length-drop, take-append-drop}
+use lib.Seq.{length-take-le, drop-cons, take-suc, get_or-drop, drop-drop}
 use borrow.Author.Tests.{eqb-true}
 use Rattle.definition.specs.Text.{str}
 use Rattle.definition.specs.Event.{after, begins_event, flush, cut, events_of}
@@ -216,31 +215,6 @@ module _ (s : List ℕ) (next : ℕ) where
             ap (λ (x : List ℕ). length (events_of x)) (sym (append-nil s)) ∙ ap length (w.1.1.0 [])
             ∙ length-append (events_of (take at s)) (events_of (drop at s ++ []))
             ∙ ap (λ (x : List ℕ). length (events_of (take at s)) + length (events_of x)) (append-nil (drop at s))
-
--- ---- bytes moved to the front: i of them are there, and from there on nothing has changed
-
-abbrev pub Moved : List ℕ → ℕ → List ℕ → ℕ → Type 0
-Moved s from t i = (length t ≡ length s) × ((take i t ≡ take i (drop from s)) × (drop i t ≡ drop i s))
-
-pub move_on : (s t : List ℕ) (from i : ℕ) → from + i < length s → Moved s from t i → Moved s from (set t i (get_or t (from + i) 0)) (i + 1)
-move_on s t from i h (l, (m, r)) = (length-set t i x ∙ l, (front, rest))
-  where
-    x : ℕ
-    x = get_or t (from + i) 0
-
-    here : x ≡ get_or (drop from s) i 0
-    here =
-        let n : i + from ≡ from + i = omega arith in
-        ap (λ (k : ℕ). get_or t k 0) (sym n) ∙ sym (get_or-drop i t from 0) ∙ ap (λ (u : List ℕ). get_or u from 0) r ∙ get_or-drop i s from 0 ∙ ap (λ (k : ℕ). get_or s k 0) n
-        ∙ sym (get_or-drop from s i 0)
-
-    front : take (i + 1) (set t i x) ≡ take (i + 1) (drop from s)
-    front =
-        rw add-one (
-        take-suc-set t i x (omega (arith, l)) ∙ ap₂ (λ (u : List ℕ) (k : ℕ). u ++ k ∷ []) m here ∙ sym (take-suc (drop from s) i 0 (omega (arith, length-drop from s))))
-
-    rest : drop (i + 1) (set t i x) ≡ drop (i + 1) s
-    rest = drop-set-lt (i + 1) t i x (omega arith) ∙ sym (drop-drop 1 i t) ∙ ap (λ (u : List ℕ). drop 1 u) r ∙ drop-drop 1 i s
 
 -- ---- a piece of what a buffer holds lies in the buffer
 

@@ -26,10 +26,7 @@ fn last_event(stream: &[u8]) -> Last
         before += 1;
         next = next_event(stream, at);
     }
-    Last {
-        at: at,
-        before: before,
-    }
+    Last { at, before }
 }
 
 // The bytes from one place to another, moved to the front.
@@ -37,11 +34,7 @@ fn move_to_front(bytes: &mut [u8], from: usize, to: usize)
     requires { (from ≤ to) × (to ≤ length bytes.old) }
     ensures { take (to - from) bytes.new ≡ take (to - from) (drop from bytes.old) }
 {
-    let mut i = 0;
-    while from + i < to {
-        bytes[i] = bytes[from + i];
-        i += 1;
-    }
+    bytes.copy_within(from..to, 0);
 }
 
 // What was read: how many bytes the buffer holds now, and whether the input ended or could not be read.
@@ -63,7 +56,7 @@ fn read_once(mut source: Stdin, buffer: &mut [u8], held: usize) -> Input
             failed: false,
         },
         Err(_) => Input {
-            held: held,
+            held,
             ended: true,
             failed: true,
         },
@@ -75,7 +68,7 @@ fn fill(source: Stdin, buffer: &mut [u8], held: usize) -> Input
     ensures { result.held ≤ length buffer.new }
 {
     let mut input = Input {
-        held: held,
+        held,
         ended: false,
         failed: false,
     };
@@ -108,52 +101,40 @@ pub struct Piece {
 fn cut(bytes: &[u8], input: Input) -> Piece
     ensures { result.end ≤ length bytes.now }
 {
-    let held = input.held;
+    let nothing = Piece {
+        end: 0,
+        events: 0,
+        held: input.held,
+        ended: input.ended,
+        failed: input.failed,
+    };
     if input.failed {
-        return Piece {
-            end: 0,
-            events: 0,
-            held: held,
-            ended: true,
-            failed: true,
-        };
+        return nothing;
     }
     if input.ended {
         return Piece {
             end: bytes.len(),
-            events: 0,
-            held: held,
-            ended: true,
-            failed: false,
+            ..nothing
         };
     }
     let last = last_event(bytes);
-    let at = last.at;
-    let before = last.before;
-    if at == 0 {
+    if last.at == 0 {
         return Piece {
             end: bytes.len(),
             events: 1,
-            held: held,
-            ended: false,
-            failed: false,
+            ..nothing
         };
     }
     Piece {
-        end: at,
-        events: before,
-        held: held,
-        ended: false,
-        failed: false,
+        end: last.at,
+        events: last.before,
+        ..nothing
     }
 }
 
 // What is held and not fed yet, moved to the front; how much it is.
 fn keep(buffer: &mut [u8], done: usize, held: usize) -> usize {
-    if held < done {
-        return 0;
-    }
-    if buffer.len() < held {
+    if held < done || buffer.len() < held {
         return 0;
     }
     move_to_front(buffer, done, held);
@@ -166,6 +147,5 @@ pub fn next_piece(source: Stdin, buffer: &mut [u8], done: usize, held: usize) ->
 {
     let kept = keep(buffer, done, held);
     let input = fill(source, buffer, kept);
-    let n = input.held;
-    cut(&buffer[..n], input)
+    cut(&buffer[..input.held], input)
 }

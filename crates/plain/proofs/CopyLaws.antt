@@ -14,7 +14,7 @@ use Rattle.definition.specs.Look.{Load}
 use Rattle.lines.specs.Escapes.{placed, fitting, length_of}
 use Rattle.lines.specs.Parts.{part, or_nothing}
 use Rattle.parts.specs.declared.Part.{Part}
-use Rattle.parts.specs.declared.Pair.{Pair}
+use Rattle.parts.specs.Walked.{Pair}
 use Rattle.parts.specs.Parts.{part_at, no_pair, at_most16}
 use Rattle.parts.proofs.MostLaws.{take_most, next_most}
 use Rattle.event.specs.Description.{Described}

@@ -7,7 +7,7 @@ use native.Mathlib.Numerals.{add-one}
 use native.Mathlib.Omega.{arith}
 use lib.ListN.{length, get_or, set, take, drop, length-set}
 use lib.Seq.{take-suc, take-suc-set}
-use Rattle.parts.specs.declared.Pair.{Pair}
+use Rattle.parts.specs.Walked.{Pair}
 use Rattle.parts.specs.Parts.{no_pair, at_most16}
 use Rattle.parts.proofs.MostLaws.{take_most, past_most, next_most}
 use Rattle.event.specs.Description.{Described}

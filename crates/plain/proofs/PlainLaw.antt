@@ -16,7 +16,7 @@ use Rattle.definition.proofs.Events.{allowed_same}
 use Rattle.lines.specs.Parts.{part, or_nothing}
 use Rattle.words.proofs.Laws.{by}
 use Rattle.parts.specs.declared.Part.{Part}
-use Rattle.parts.specs.declared.Pair.{Pair}
+use Rattle.parts.specs.Walked.{Pair}
 use Rattle.walk.specs.Reads.{Reads, Pairs, no_pairs_lem, pair}
 use Rattle.event.specs.Description.{Described}
 use Rattle.event.specs.Described.{read}

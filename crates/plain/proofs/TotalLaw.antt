@@ -15,7 +15,7 @@ use Rattle.definition.proofs.Base.{true_is_false, and_right}
 use Rattle.lines.specs.Parts.{part, or_nothing}
 use Rattle.words.proofs.Laws.{by}
 use Rattle.parts.specs.declared.Part.{Part}
-use Rattle.parts.specs.declared.Pair.{Pair}
+use Rattle.parts.specs.Walked.{Pair}
 use Rattle.parts.specs.Parts.{part_at}
 use Rattle.walk.specs.Reads.{Pairs, no_pairs_lem, pair}
 use Rattle.event.specs.Description.{Described}

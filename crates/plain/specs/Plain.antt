@@ -7,7 +7,7 @@ use Rattle.definition.specs.Event.{Event, kind}
 use Rattle.definition.specs.Look.{Load, value_loads}
 use Rattle.lines.specs.Parts.{part}
 use Rattle.parts.specs.declared.Part.{Part}
-use Rattle.parts.specs.declared.Pair.{Pair}
+use Rattle.parts.specs.Walked.{Pair}
 use Rattle.parts.specs.Parts.{part_at}
 use Rattle.event.specs.Description.{Described}
 use Rattle.event.specs.Described.{read}

@@ -3,15 +3,17 @@
 #![tactic(auto)]
 
 ghost use Rattle.std.specs.Prelude.{◌≡◌, ◌+◌, ◌-◌, ◌<◌, ◌≤◌, ◌++◌, length, take, drop};
+ghost use Rattle.definition.specs.Codes.{kind_number, key_code};
 ghost use Rattle.definition.specs.Look.{payload};
+ghost use Rattle.parts.specs.Parts.{pair_of, text_of as text_in};
 ghost use Rattle.event.specs.Described.{read, described_by};
 ghost use Rattle.plain.specs.Plain.{is_plain, plainly, span_of, PlainOf, text_part, slot_bytes, slots_of, loads_in, parsed_in, parsed_raw, Space};
 ghost use Rattle.plain.specs.Keyed.{key_place, keyed_of, is_marked, keyed_bytes};
 
-use definition::codes::Kind;
+use definition::codes::{Key, Kind};
 use event::Head;
 use lines::{part_of, unescape};
-use parts::{Part, at_most_16, pair_at, place};
+use parts::{Pair, Part, at_most_16, no_part};
 
 /// A part: its key's number, 0 where it has none, and where it stands.
 #[derive(Clone, Copy)]
@@ -50,7 +52,8 @@ impl Plain {
     pub const COPY: usize = 20_544;
 }
 
-/// The first value of each key, by the key's number: 1 where it is there, and where it stands; zeros where it is not.
+/// The first value of each key, by the key's number: 1 where it is there, and where it stands; zeros where it is not. Three arrays of numbers, since they are
+/// zeroed for each event, and optional slots are more than twice as long.
 #[derive(Clone, Copy)]
 pub struct Keyed {
     pub there: [u8; Plain::KEYS],
@@ -65,59 +68,58 @@ pub struct Indexed {
     pub total: usize,
 }
 
+#[tactic(auto, unfolding(crate::specs::Plain::is_plain))]
 fn is_plain_part(p: Part) -> bool
     ensures { result ≡ is_plain p }
 {
     p.len == p.size
 }
 
-fn slot_of(code: u32, p: Part) -> Slot
-    ensures { result ≡ span_of code p }
+// A key's number; 0 where the key is unknown.
+fn code_of(code: Option<Key>) -> u32
+    ensures { result ≡ key_code code }
 {
-    let at = p.at;
-    let len = p.len;
-    Slot {
-        code: code,
-        at: at,
-        len: len,
+    match code {
+        Some(key) => key.number(),
+        None => 0,
     }
 }
 
-pub fn plain_of(d: Head, pairs: &[[u16; 8]]) -> Placed
+#[tactic(auto, unfolding(crate::specs::Plain::span_of))]
+fn slot_of(code: u32, p: Part) -> Slot
+    ensures { result ≡ span_of code p }
+{
+    Slot {
+        code,
+        at: p.at,
+        len: p.len,
+    }
+}
+
+pub fn plain_of(d: Head, pairs: &[Pair]) -> Placed
     requires { length pairs.now ≡ 16 }
     ensures plain { result.plain ≡ plainly (described_by d pairs.now) }
     ensures parts { PlainOf (described_by d pairs.now) result.parts }
 {
-    let kind = d.kind;
-    let tag = d.tag;
-    let count = d.count;
-    let dn = d.name;
-    let dt = d.text;
-    let name = slot_of(0, dn);
-    let text = slot_of(0, dt);
-    let n = at_most_16(count);
+    let given = d.text.unwrap_or(no_part());
+    let name = slot_of(0, d.name);
     let mut slots = [name; Plain::SLOTS];
-    let mut plain = is_plain_part(dn) & is_plain_part(dt);
-    let mut i = 0;
-    while i < n {
-        let p = pair_at(pairs, i);
-        let v = p.value;
-        let s = slot_of(p.code, v);
-        slots[i] = s;
-        plain = plain & is_plain_part(v);
-        i += 1;
+    let mut plain = is_plain_part(d.name) & is_plain_part(given);
+    for i in 0..at_most_16(d.count) {
+        let p = pairs[i];
+        slots[i] = slot_of(code_of(p.code), p.value);
+        plain = plain & is_plain_part(p.value);
     }
-    let parts = Plain {
-        kind: kind,
-        tag: tag,
-        count: count,
-        name: name,
-        text: text,
-        slots: slots,
-    };
     Placed {
-        plain: plain,
-        parts: parts,
+        plain,
+        parts: Plain {
+            kind: d.kind.number(),
+            tag: d.tag.number(),
+            count: d.count,
+            name,
+            text: slot_of(0, given),
+            slots,
+        },
     }
 }
 
@@ -127,10 +129,10 @@ fn copy_part(out: &mut [u8], pos: usize, raw: &[u8], p: Part) -> usize
     ensures value { result ≡ pos + length (read raw.now p) }
     ensures out_after { out.new ≡ take pos out.old ++ (read raw.now p ++ drop (pos + length (read raw.now p)) out.old) }
 {
-    let at = place(p.at);
-    let len = place(p.len);
-    let n = unescape(part_of(raw, at, len), &mut out[pos..]);
-    pos + n
+    pos + unescape(
+        part_of(raw, usize::from(p.at), usize::from(p.len)),
+        &mut out[pos..],
+    )
 }
 
 fn slot_at(code: u32, start: usize, end: usize) -> Slot
@@ -138,74 +140,59 @@ fn slot_at(code: u32, start: usize, end: usize) -> Slot
     ensures { result ≡ record { code = code; at = start; len = end - start } }
 {
     Slot {
-        code: code,
+        code,
         at: start as u16,
         len: (end - start) as u16,
     }
 }
 
 // A text only where the event has one.
-fn text_of(kind: u32, p: Part) -> Part
-    ensures { result ≡ text_part kind p }
+#[tactic(auto, unfolding(crate::specs::Plain::text_part))]
+fn text_of(kind: Kind, given: Option<Part>) -> Part
+    ensures { result ≡ text_part (kind_number kind) (text_in given) }
 {
-    if kind == Kind::WHOLE {
-        return p;
-    }
-    Part {
-        at: 0,
-        len: 0,
-        size: 0,
+    match (kind, given) {
+        (Kind::Whole, Some(text)) => text,
+        _ => no_part(),
     }
 }
 
 // The parts unescaped into a copy.
-pub fn unescape_all(out: &mut [u8], raw: &[u8], d: Head, pairs: &[[u16; 8]]) -> Plain
+pub fn unescape_all(out: &mut [u8], raw: &[u8], d: Head, pairs: &[Pair]) -> Plain
     requires pairs_len { length pairs.now ≡ 16 }
     requires space { Space raw.now (described_by d pairs.now) (length out.old) }
     ensures { parsed_in out.new result ≡ parsed_raw raw.now (described_by d pairs.now) }
 {
-    let kind = d.kind;
-    let tag = d.tag;
-    let count = d.count;
-    let dn = d.name;
-    let given = d.text;
-    let dt = text_of(kind, given);
-    let first = copy_part(out, 0, raw, dn);
+    let dt = text_of(d.kind, d.text);
+    let first = copy_part(out, 0, raw, d.name);
     let name = slot_at(0, 0, first);
     let second = copy_part(out, first, raw, dt);
     let text = slot_at(0, first, second);
-    let n = at_most_16(count);
     let mut slots = [name; Plain::SLOTS];
     let mut pos = second;
-    let mut i = 0;
-    while i < n {
-        let p = pair_at(pairs, i);
-        let v = p.value;
-        let end = copy_part(out, pos, raw, v);
-        let s = slot_at(p.code, pos, end);
-        slots[i] = s;
+    for i in 0..at_most_16(d.count) {
+        let p = pairs[i];
+        let end = copy_part(out, pos, raw, p.value);
+        slots[i] = slot_at(code_of(p.code), pos, end);
         pos = end;
-        i += 1;
     }
     Plain {
-        kind: kind,
-        tag: tag,
-        count: count,
-        name: name,
-        text: text,
-        slots: slots,
+        kind: d.kind.number(),
+        tag: d.tag.number(),
+        count: d.count,
+        name,
+        text,
+        slots,
     }
 }
 
 // A key's place in the index; the last one is for numbers that no key has.
+#[tactic(auto, unfolding(crate::specs::Keyed::key_place))]
 fn key_place(code: u32) -> usize
     ensures value { result ≡ key_place code }
     ensures upper_bound { result < 32 }
 {
-    if code < 31 {
-        return code as usize;
-    }
-    31
+    code.min(31) as usize
 }
 
 // From the last value to the first, so that the first one of a key stays.
@@ -214,40 +201,30 @@ pub fn index(src: &[u8], p: Plain) -> Indexed
     ensures total_value { result.total ≡ length (payload (loads_in src.now (slots_of p))) }
     ensures total_bound { result.total ≤ 1048576 }
 {
-    let count = p.count;
-    let slots = p.slots;
     let mut there = [0u8; Plain::KEYS];
     let mut at = [0u16; Plain::KEYS];
     let mut len = [0u16; Plain::KEYS];
     let mut total = 0;
-    let mut i = at_most_16(count);
-    while 0 < i {
-        i -= 1;
-        let s = slots[i];
+    for i in (0..at_most_16(p.count)).rev() {
+        let s = p.slots[i];
         let k = key_place(s.code);
         there[k] = 1;
         at[k] = s.at;
         len[k] = s.len;
-        let v = bytes_of(src, s);
-        total += v.len();
+        total += bytes_of(src, s).len();
     }
-    let keyed = Keyed {
-        there: there,
-        at: at,
-        len: len,
-    };
     Indexed {
-        keyed: keyed,
-        total: total,
+        keyed: Keyed { there, at, len },
+        total,
     }
 }
 
+#[tactic(auto, unfolding(crate::specs::Keyed::is_marked))]
 pub fn has(ix: Keyed, k: usize) -> bool
     requires { k < 32 }
     ensures { result ≡ is_marked ix k }
 {
-    let there = ix.there;
-    !(there[k] == 0)
+    ix.there[k] != 0
 }
 
 /// The bytes of a part.
@@ -255,9 +232,7 @@ pub fn bytes_of(src: &[u8], s: Slot) -> &[u8]
     ensures result_value { result.now ≡ slot_bytes src.now s }
     ensures result_len_bound { length result.now < 65536 }
 {
-    let at = place(s.at);
-    let len = place(s.len);
-    part_of(src, at, len)
+    part_of(src, usize::from(s.at), usize::from(s.len))
 }
 
 // A key's first value; no bytes without it.
@@ -266,9 +241,5 @@ pub fn value(src: &[u8], ix: Keyed, k: usize) -> &[u8]
     ensures result_value { result.now ≡ keyed_bytes src.now ix k }
     ensures result_len_bound { length result.now < 65536 }
 {
-    let ats = ix.at;
-    let lens = ix.len;
-    let at = place(ats[k]);
-    let len = place(lens[k]);
-    part_of(src, at, len)
+    part_of(src, usize::from(ix.at[k]), usize::from(ix.len[k]))
 }

@@ -42,20 +42,8 @@ impl TransitionType {
     pub const INTERNAL: u32 = 1;
 }
 
-/// The numbers of document 01 that a decision may refuse with.
-#[derive(Clone, Copy)]
-pub struct Refusal {}
-
-impl Refusal {
-    pub const INTERNAL: u32 = 2;
-
-    pub const INITIAL: u32 = 13;
-
-    pub const ELSE_WALK: u32 = 14;
-}
-
 /// at: 1, or 0 where the row stays. root brings the element's texts with it.
-#[derive(Clone, Copy)]
+#[derive(Clone, Copy, Default)]
 pub struct ChartPlan {
     pub at: u32,
     pub binding: u32,
@@ -64,7 +52,7 @@ pub struct ChartPlan {
 }
 
 /// One row, `at`. Every column is one more than its new value; texts is one more than the shape.
-#[derive(Clone, Copy)]
+#[derive(Clone, Copy, Default)]
 pub struct StatePlan {
     pub at: StateId,
     pub texts: u32,
@@ -79,7 +67,7 @@ pub struct StatePlan {
 }
 
 /// A row added (number 0: none; texts 1: with the element's cond), and one that gets its content.
-#[derive(Clone, Copy)]
+#[derive(Clone, Copy, Default)]
 pub struct TransitionPlan {
     pub number: TransitionId,
     pub doc: u32,
@@ -93,14 +81,14 @@ pub struct TransitionPlan {
 }
 
 /// Up to two regions, by their numbers.
-#[derive(Clone, Copy)]
+#[derive(Clone, Copy, Default)]
 pub struct RegionPlan {
     pub one: RegionId,
     pub two: RegionId,
 }
 
 /// A row added (kind 0: none), and one altered: its else region, or its content (filled 1).
-#[derive(Clone, Copy)]
+#[derive(Clone, Copy, Default)]
 pub struct EntryPlan {
     pub kind: u32,
     pub region: RegionId,
@@ -113,7 +101,7 @@ pub struct EntryPlan {
 }
 
 /// A row added (added 0: none), and one altered: its finalize, or its content (filled 1).
-#[derive(Clone, Copy)]
+#[derive(Clone, Copy, Default)]
 pub struct InvokePlan {
     pub added: u32,
     pub state: StateId,
@@ -124,7 +112,7 @@ pub struct InvokePlan {
 }
 
 /// A row added (added 0: none), or one altered, with the shape.
-#[derive(Clone, Copy)]
+#[derive(Clone, Copy, Default)]
 pub struct DatumPlan {
     pub added: u32,
     pub state: StateId,
@@ -133,14 +121,14 @@ pub struct DatumPlan {
 }
 
 /// kind 0: none.
-#[derive(Clone, Copy)]
+#[derive(Clone, Copy, Default)]
 pub struct ParameterPlan {
     pub kind: u32,
     pub owner: u32,
 }
 
 /// list 0: none.
-#[derive(Clone, Copy)]
+#[derive(Clone, Copy, Default)]
 pub struct MemberPlan {
     pub list: u32,
     pub owner: u32,
@@ -148,7 +136,7 @@ pub struct MemberPlan {
 }
 
 /// In this order: words (their number as value), the event's states as targets but for the first skip (owner 0: none), a member, another one.
-#[derive(Clone, Copy)]
+#[derive(Clone, Copy, Default)]
 pub struct MembersPlan {
     pub words: MemberPlan,
     pub owner: u32,
@@ -158,14 +146,14 @@ pub struct MembersPlan {
 }
 
 /// The state and the transition that are current inside the element, if it is open afterwards.
-#[derive(Clone, Copy)]
+#[derive(Clone, Copy, Default)]
 pub struct OpenPlan {
     pub state: StateId,
     pub transition: TransitionId,
 }
 
 /// kept of the open regions stay, then up to two come (tag 0: none).
-#[derive(Clone, Copy)]
+#[derive(Clone, Copy, Default)]
 pub struct OpenRegionPlan {
     pub kept: u32,
     pub region: RegionId,
@@ -174,14 +162,14 @@ pub struct OpenRegionPlan {
     pub by: u32,
 }
 
-#[derive(Clone, Copy)]
+#[derive(Clone, Copy, Default)]
 pub struct CounterPlan {
     pub current: RegionId,
     pub ids: u32,
     pub docs: u32,
 }
 
-#[derive(Clone, Copy)]
+#[derive(Clone, Copy, Default)]
 pub struct Plan {
     pub chart: ChartPlan,
     pub states: StatePlan,
@@ -198,7 +186,7 @@ pub struct Plan {
 }
 
 /// A state as it is declared: its columns, and what it joins.
-#[derive(Clone, Copy)]
+#[derive(Clone, Copy, Default)]
 pub struct Declared {
     pub parent: u32,
     pub parallel: u32,

@@ -10,11 +10,11 @@ use lib.ListN.{length, get_or, take, drop, set, length-set, length-append, drop_
 use lib.Seq.{take_all, take_at, take-suc-set, drop-cons, length-take-le}
 use borrow.Author.Tests.{eq-eqb, ne_eqb, ltb-true, ltb-false}
 use Rattle.words.proofs.Laws.{by}
-use Rattle.written.proofs.Laws.{digits_one, digits_more}
+use Rattle.written.proofs.Decimal.{digits_one, digits_more}
 use Rattle.definition.specs.Text.{digits, decimal}
 use Rattle.definition.specs.Rows.{Table, num, listed, same_list, values_of}
 use Rattle.printing.specs.Added.{Added, Begun}
-use Rattle.printing.specs.Lines.{escape, escaped, gap, spaced_from, spaced, line, numbers_of}
+use Rattle.printing.specs.Lines.{escape, escaped, gap, spaced_from, line, numbers_of}
 
 -- ---- a buffer filled from the front
 
@@ -143,14 +143,15 @@ module _ (l o : ℕ) (ms : Table) (i : ℕ) where
   member_end h = rw (drop_of_length-le ms h)
 
   -- one item of a list, and what is left of it
-  pub item : (first : Bool) (n j : ℕ) → i < length ms → same_list l o (get_or ms i []) ≡ true → n ≡ num (get_or ms i []) 2 → listed l o (drop (i + 1) ms) ≡ listed l o (drop j ms)
-      → spaced_from first (numbers_of l o (drop i ms)) ≡ (gap first ++ decimal n) ++ spaced_from false (numbers_of l o (drop j ms))
+  pub item : (first : Bool) (n : ℕ) → i < length ms → same_list l o (get_or ms i []) ≡ true → n ≡ num (get_or ms i []) 2
+      → spaced_from first (numbers_of l o (drop i ms)) ≡ (gap first ++ decimal n) ++ spaced_from false (numbers_of l o (drop (i + 1) ms))
   unfolding numbers_of spaced_from values_of
-  item first n j h e f g = rw (member_here h e, g, f)
+  item first n h e f = rw (member_here h e, f)
 
-  pub items_all : listed l o (drop 0 ms) ≡ listed l o (drop i ms) → spaced (numbers_of l o ms) ≡ spaced_from true (numbers_of l o (drop i ms))
-  unfolding spaced numbers_of
-  items_all e = ap (λ (x : Table). spaced_from true (values_of x)) e
+  -- a row of another list
+  pub no_item : (first : Bool) → i < length ms → same_list l o (get_or ms i []) ≡ false → spaced_from first (numbers_of l o (drop i ms)) ≡ spaced_from first (numbers_of l o (drop (i + 1) ms))
+  unfolding numbers_of
+  no_item first h e = rw (member_more h e)
 
   pub items_end : (first : Bool) → length ms ≤ i → spaced_from first (numbers_of l o (drop i ms)) ≡ []
   unfolding numbers_of spaced_from values_of

@@ -9,61 +9,37 @@ ghost use Rattle.printing.specs.Added.{Added};
 ghost use Rattle.printing.specs.Lines.{escape, escaped, gap, spaced, line, numbers_of};
 
 use definition::cells::MemberColumn;
+use itoa::Buffer;
 
 // ---- bytes, numbers, names
-
-fn put_byte(out: &mut [u8], at: usize, b: u8) -> usize
-    requires { at ≤ length out.old }
-    ensures { Added out.old at out.new result (b ∷ []) }
-{
-    if out.len() <= at {
-        return at;
-    }
-    out[at] = b;
-    at + 1
-}
 
 pub fn put_bytes(out: &mut [u8], at: usize, w: &[u8]) -> usize
     requires { at ≤ length out.old }
     ensures { Added out.old at out.new result w.now }
 {
-    let mut p = at;
-    let mut i = 0;
-    while i < w.len() {
-        p = put_byte(out, p, w[i]);
-        i += 1;
-    }
-    p
-}
-
-fn digit(n: u64) -> u8
-    ensures { result ≡ 48 + n % 10 }
-{
-    48 + (n % 10) as u8
+    let n = w.len().min(out.len() - at);
+    out[at..at + n].copy_from_slice(&w[..n]);
+    at + n
 }
 
 fn put_number(out: &mut [u8], at: usize, n: u64) -> usize
     requires { at ≤ length out.old }
     ensures { Added out.old at out.new result (decimal n) }
 {
-    if n < 10 {
-        return put_byte(out, at, digit(n));
-    }
-    let p = put_number(out, at, n / 10);
-    put_byte(out, p, digit(n))
+    put_bytes(out, at, Buffer::new().format(n).as_bytes())
 }
 
 fn put_escape(out: &mut [u8], at: usize, b: u8) -> usize
     requires { at ≤ length out.old }
     ensures { Added out.old at out.new result (escape b) }
 {
-    if b == 10 {
+    if b == b'\n' {
         return put_bytes(out, at, b"\\n");
     }
-    if b == 92 {
+    if b == b'\\' {
         return put_bytes(out, at, b"\\\\");
     }
-    put_byte(out, at, b)
+    put_bytes(out, at, &[b])
 }
 
 fn put_escaped(out: &mut [u8], at: usize, w: &[u8]) -> usize
@@ -71,10 +47,8 @@ fn put_escaped(out: &mut [u8], at: usize, w: &[u8]) -> usize
     ensures { Added out.old at out.new result (escaped w.now) }
 {
     let mut p = at;
-    let mut i = 0;
-    while i < w.len() {
-        p = put_escape(out, p, w[i]);
-        i += 1;
+    for b in w {
+        p = put_escape(out, p, *b);
     }
     p
 }
@@ -87,7 +61,7 @@ pub fn put_number_line(out: &mut [u8], at: usize, head: &[u8], n: u64) -> usize
 {
     let p = put_bytes(out, at, head);
     let q = put_number(out, p, n);
-    put_byte(out, q, 10)
+    put_bytes(out, q, b"\n")
 }
 
 pub fn put_name_line(out: &mut [u8], at: usize, head: &[u8], name: &[u8]) -> usize
@@ -96,26 +70,10 @@ pub fn put_name_line(out: &mut [u8], at: usize, head: &[u8], name: &[u8]) -> usi
 {
     let p = put_bytes(out, at, head);
     let q = put_escaped(out, p, name);
-    put_byte(out, q, 10)
+    put_bytes(out, q, b"\n")
 }
 
 // ---- lists
-
-// The place of the next member of a list, from a place on; the table's length where there is none.
-fn next_member(members: &[[u32; 8]], from: usize, list: u32, owner: u32) -> usize
-    ensures members_value { listed list owner (drop from members.now) ≡ listed list owner (drop result members.now) }
-    ensures result_value { result < length members.now → same_list list owner (get_or members.now result []) ≡ true }
-    ensures lower_bound { from ≤ result }
-{
-    let mut i = from;
-    while i < members.len() {
-        if (members[i][MemberColumn::LIST] == list) & (members[i][MemberColumn::OWNER] == owner) {
-            return i;
-        }
-        i += 1;
-    }
-    i
-}
 
 fn put_item(out: &mut [u8], at: usize, first: bool, n: u64) -> usize
     requires { at ≤ length out.old }
@@ -124,7 +82,7 @@ fn put_item(out: &mut [u8], at: usize, first: bool, n: u64) -> usize
     if first {
         return put_number(out, at, n);
     }
-    let p = put_byte(out, at, 32);
+    let p = put_bytes(out, at, b" ");
     put_number(out, p, n)
 }
 
@@ -134,19 +92,13 @@ fn put_list(out: &mut [u8], at: usize, members: &[[u32; 8]], list: u32, owner: u
 {
     let mut p = at;
     let mut first = true;
-    let mut i = next_member(members, 0, list, owner);
-    while i < members.len() {
-        p = put_item(out, p, first, wide(members[i][MemberColumn::VALUE]));
-        first = false;
-        i = next_member(members, i + 1, list, owner);
+    for row in members {
+        if (row[MemberColumn::LIST] == list) & (row[MemberColumn::OWNER] == owner) {
+            p = put_item(out, p, first, u64::from(row[MemberColumn::VALUE]));
+            first = false;
+        }
     }
     p
-}
-
-fn wide(x: u32) -> u64
-    ensures { result ≡ x }
-{
-    x as u64
 }
 
 pub fn put_list_line(
@@ -162,5 +114,5 @@ pub fn put_list_line(
 {
     let p = put_bytes(out, at, head);
     let q = put_list(out, p, members, list, owner);
-    put_byte(out, q, 10)
+    put_bytes(out, q, b"\n")
 }

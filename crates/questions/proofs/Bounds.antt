@@ -14,7 +14,9 @@ use Rattle.definition.specs.declared.Position.{Position}
 use Rattle.definition.specs.Reader.{long_enough, all_long, all_at_most, counts, taken, store_of, in_order}
 use Rattle.definition.proofs.Base.{and_true, elim_and, and_left, and_right}
 use Rattle.definition.proofs.Lending.{most_cons}
-use Rattle.questions.specs.Lent.{tables, lent, store, rules_kept, counts_fit, counters_fit, Few}
+use Rattle.rows.specs.declared.lent.Tables.{Tables}
+use Rattle.rows.specs.Lent.{lent, seen_of, RowsInUse}
+use Rattle.questions.specs.Lent.{store, rules_kept, counts_fit, counters_fit, Few}
 
 -- What is taken of a table has at most as many rows as are taken.
 within_taken : (ks ms : List ℕ) (ts : List Table) → all_at_most ks ms ≡ true → all_within ms (taken ks ts) ≡ true
@@ -63,6 +65,11 @@ counts_list : (p : Position) → (leb p.states 256 && (leb p.transitions 512 && 
 unfolding counts table_limits chart_limits open_limits
 counts_list p = twelve 1 p.states p.transitions p.regions p.entries p.invokes p.datums p.parameters p.members p.opened p.opened p.open_regions 1 256 512 512 2048 64 256 512 4096 32 32 64 refl
 
+-- As many names are open as elements.
+pub once : (a b : Bool) → (a && (a && b)) ≡ (a && b)
+once true b = refl
+once false b = refl
+
 pub counts_is : (p : Position) {b : Bool} → b ≡ (leb p.states 256 && (leb p.transitions 512 && (leb p.regions 512 && (leb p.entries 2048 && (leb p.invokes 64 && (leb p.datums 256 && (leb p.parameters 512 && (leb p.members 4096 && (leb p.opened 32 && (leb p.opened 32 && leb p.open_regions 64)))))))))) → (b && leb p.used 65535) ≡ counts_fit p
 unfolding counts_fit
 counts_is p e = ap (λ (x : Bool). x && leb p.used 65535) (e ∙ counts_list p)
@@ -72,26 +79,26 @@ counts_is p e = ap (λ (x : Bool). x && leb p.used 65535) (e ∙ counts_list p)
 few_taken {ℓ} : {A : Type ℓ} (n m : ℕ) (t : List A) → leb n m ≡ true → length (take n t) ≤ m
 few_taken n m t e = omega (arith, length-take n t, leb-true n m e)
 
-pub few : (p : Position) (st en iv pa : Table) (bytes : List ℕ) → counts_fit p ≡ true → Few (take p.states st) (take p.entries en) (take p.invokes iv) (take p.parameters pa) (take p.used bytes)
-few p st en iv pa bytes e =
+pub few : {x y : Tables} {p : Position} → RowsInUse x p y → counts_fit p ≡ true → Few y.states.now y.entries.now y.invokes.now y.parameters.now y.text.now
+few {x} {y} {p} U e =
     let a : all_at_most (counts p) (table_limits limits01) ≡ true = and_left (all_at_most (counts p) (table_limits limits01)) (leb p.used 65535) (counted_is p e) in
     let c0 : _ ≡ true = counts_list p ∙ a in
     let c3 : _ ≡ true = and_right (leb p.regions 512) _ (and_right (leb p.transitions 512) _ (and_right (leb p.states 256) _ c0)) in
     let c4 : _ ≡ true = and_right (leb p.entries 2048) _ c3 in
     let c6 : _ ≡ true = and_right (leb p.datums 256) _ (and_right (leb p.invokes 64) _ c4) in
     record {
-      states = few_taken p.states 256 st (and_left (leb p.states 256) _ c0);
-      entries = few_taken p.entries 2048 en (and_left (leb p.entries 2048) _ c3);
-      invokes = few_taken p.invokes 64 iv (and_left (leb p.invokes 64) _ c4);
-      parameters = few_taken p.parameters 512 pa (and_left (leb p.parameters 512) _ c6);
-      text = few_taken p.used 65535 bytes (and_right (all_at_most (counts p) (table_limits limits01)) (leb p.used 65535) (counted_is p e));
+      states = rw U.states (few_taken p.states 256 x.states.now (and_left (leb p.states 256) _ c0));
+      entries = rw U.entries (few_taken p.entries 2048 x.entries.now (and_left (leb p.entries 2048) _ c3));
+      invokes = rw U.invokes (few_taken p.invokes 64 x.invokes.now (and_left (leb p.invokes 64) _ c4));
+      parameters = rw U.parameters (few_taken p.parameters 512 x.parameters.now (and_left (leb p.parameters 512) _ c6));
+      text = rw U.text (few_taken p.used 65535 x.text.now (and_right (all_at_most (counts p) (table_limits limits01)) (leb p.used 65535) (counted_is p e)));
     }
 
 -- ---- the parts that are cut out
 
-pub cut_kept : (ch st tr re en iv da pa me op on or : Table) (text : List ℕ) (p : Position) {x0 x1 x2 x3 x4 x5 x6 x7 x8 x9 x10 x11 : Table} {x12 : List ℕ} → x0 ≡ take 1 ch → x1 ≡ take p.states st → x2 ≡ take p.transitions tr → x3 ≡ take p.regions re → x4 ≡ take p.entries en → x5 ≡ take p.invokes iv → x6 ≡ take p.datums da → x7 ≡ take p.parameters pa → x8 ≡ take p.members me → x9 ≡ take p.opened op → x10 ≡ take p.opened on → x11 ≡ take p.open_regions or → x12 ≡ take p.used text → rules_kept limits01 (store (tables x0 x1 x2 x3 x4 x5 x6 x7 x8 x9 x10 x11) x12 p) ≡ rules_kept limits01 (store_of (lent (tables ch st tr re en iv da pa me op on or) text) p)
+pub cut_kept : {x y : Tables} {p : Position} → RowsInUse x p y → rules_kept limits01 (store (seen_of y).tables y.text.now p) ≡ rules_kept limits01 (store_of (seen_of x) p)
 unfolding store_of taken counts
-cut_kept ch st tr re en iv da pa me op on or text p e0 e1 e2 e3 e4 e5 e6 e7 e8 e9 e10 e11 e12 = rw (e0, e1, e2, e3, e4, e5, e6, e7, e8, e9, e10, e11, e12)
+cut_kept {x} {y} {p} U = λ i. rules_kept limits01 (store (U.chart i ∷ U.states i ∷ U.transitions i ∷ U.regions i ∷ U.entries i ∷ U.invokes i ∷ U.datums i ∷ U.parameters i ∷ U.members i ∷ U.opened i ∷ U.open_names i ∷ U.open_regions i ∷ []) (U.text i) p)
 
 -- ---- question 1
 
@@ -106,14 +113,14 @@ long_none ts = refl
 long_all : (m0 m1 m2 m3 m4 m5 m6 m7 m8 m9 m10 m11 : ℕ) (t0 t1 t2 t3 t4 t5 t6 t7 t8 t9 t10 t11 : Table) → (leb m0 (length t0) && (leb m1 (length t1) && (leb m2 (length t2) && (leb m3 (length t3) && (leb m4 (length t4) && (leb m5 (length t5) && (leb m6 (length t6) && (leb m7 (length t7) && (leb m8 (length t8) && (leb m9 (length t9) && (leb m10 (length t10) && (leb m11 (length t11))))))))))))) ≡ all_long (m0 ∷ m1 ∷ m2 ∷ m3 ∷ m4 ∷ m5 ∷ m6 ∷ m7 ∷ m8 ∷ m9 ∷ m10 ∷ m11 ∷ []) (t0 ∷ t1 ∷ t2 ∷ t3 ∷ t4 ∷ t5 ∷ t6 ∷ t7 ∷ t8 ∷ t9 ∷ t10 ∷ t11 ∷ [])
 long_all m0 m1 m2 m3 m4 m5 m6 m7 m8 m9 m10 m11 t0 t1 t2 t3 t4 t5 t6 t7 t8 t9 t10 t11 = simp (long_more, long_none, and_true)
 
-module _ (t0 t1 t2 t3 t4 t5 t6 t7 t8 t9 t10 t11 : Table) (text : List ℕ) where
+module _ (x : Tables) where
   abbrev long_bits : Bool
-  long_bits = leb 1 (length t0) && (leb 256 (length t1) && (leb 512 (length t2) && (leb 512 (length t3) && (leb 2048 (length t4) && (leb 64 (length t5) && (leb 256 (length t6) && (leb 512 (length t7) && (leb 4096 (length t8) && (leb 32 (length t9) && (leb 32 (length t10) && (leb 64 (length t11))))))))))))
+  long_bits = leb 1 (length x.chart.now) && (leb 256 (length x.states.now) && (leb 512 (length x.transitions.now) && (leb 512 (length x.regions.now) && (leb 2048 (length x.entries.now) && (leb 64 (length x.invokes.now) && (leb 256 (length x.datums.now) && (leb 512 (length x.parameters.now) && (leb 4096 (length x.members.now) && (leb 32 (length x.opened.now) && (leb 32 (length x.open_names.now) && (leb 64 (length x.open_regions.now))))))))))))
 
-  long_list : long_bits ≡ all_long (table_limits limits01) (tables t0 t1 t2 t3 t4 t5 t6 t7 t8 t9 t10 t11)
+  long_list : long_bits ≡ all_long (table_limits limits01) (seen_of x).tables
   unfolding table_limits chart_limits open_limits
-  long_list = long_all 1 256 512 512 2048 64 256 512 4096 32 32 64 t0 t1 t2 t3 t4 t5 t6 t7 t8 t9 t10 t11
+  long_list = long_all 1 256 512 512 2048 64 256 512 4096 32 32 64 x.chart.now x.states.now x.transitions.now x.regions.now x.entries.now x.invokes.now x.datums.now x.parameters.now x.members.now x.opened.now x.open_names.now x.open_regions.now
 
-  pub long_is : long_bits && leb 65535 (length text) ≡ long_enough limits01 (lent (tables t0 t1 t2 t3 t4 t5 t6 t7 t8 t9 t10 t11) text)
+  pub long_is : long_bits && leb 65535 (length x.text.now) ≡ long_enough limits01 (seen_of x)
   unfolding long_enough
-  long_is = ap (λ (x : Bool). x && leb 65535 (length text)) long_list
+  long_is = ap (λ (b : Bool). b && leb 65535 (length x.text.now)) long_list

@@ -2,16 +2,17 @@
 use mathlib.Core.Path.{◌≡◌, refl, sym}
 use mathlib.Core.Bool.{Bool, true, false, ◌&&◌}
 use mathlib.Core.List.{List, [], ◌∷◌}
-use Prim.Native.Nat.{ℕ}
 use lib.ListN.{replicate}
 use Rattle.definition.specs.Limits.{limits01}
 use Rattle.definition.specs.Rows.{Table, Class, free, table, schema, Numbers, table_of, Store, chart_columns, state_columns, transition_columns, region_columns, entry_columns, invoke_columns, datum_columns, parameter_columns, member_columns, opened_columns, open_region_columns}
 use Rattle.definition.specs.Rules.{rows_keep, tables_keep, rises, none_in, numbers_fit, names_distinct, open_names_fit, open_regions_fit, is_row_or_zero}
-use Rattle.columns.specs.declared.Known.{Known}
+use Rattle.columns.specs.declared.numbered.Known.{Known}
 use Rattle.columns.specs.Sees.{Sees}
 use Rattle.definition.specs.declared.Position.{Position}
 use Rattle.definition.proofs.Base.{and_true, elim_and}
-use Rattle.questions.specs.Lent.{tables, store, rules_kept, known_of}
+use Rattle.rows.specs.declared.lent.Tables.{Tables}
+use Rattle.rows.specs.Lent.{tables, seen_of}
+use Rattle.questions.specs.Lent.{store, rules_kept, KnownOf}
 
 pub tables_more : (s : Store) (cs : List Class) (css : List (List Class)) (t : Table) (ts : List Table) → tables_keep s (cs ∷ css) (t ∷ ts) ≡ rows_keep s cs t && tables_keep s css ts
 unfolding tables_keep
@@ -35,15 +36,20 @@ unfit s e =
     (open_names_fit limits01 (table_of s.numbers table.opened) (table_of s.numbers table.open_names)) (open_regions_fit s.numbers) (is_row_or_zero s.numbers table.regions s.numbers.current)
     e
 
-pub sees : (ch st tr re en iv da pa me op on or : Table) (text : List ℕ) (p : Position) {k : Known} → k ≡ known_of st en iv pa text p → Sees (store (tables ch st tr re en iv da pa me op on or) text p) k tr re
-sees ch st tr re en iv da pa me op on or text p e =
-    rw e record { states = refl; entries = refl; invokes = refl; parameters = refl; ids = refl; docs = refl; used = refl; transitions = refl; regions = refl }
+module _ (x : Tables) (p : Position) where
+  abbrev pub it_is : Store
+  it_is = store (seen_of x).tables x.text.now p
 
--- Numbers that do not fit, in the order in which the code asks.
-module _ (ch st tr re en iv da pa me op on or : Table) (text : List ℕ) (p : Position) where
-  abbrev it_is : Store
-  it_is = store (tables ch st tr re en iv da pa me op on or) text p
+  abbrev tr : Table
+  tr = x.transitions.now
 
+  abbrev re : Table
+  re = x.regions.now
+
+  pub sees : {k : Known} → KnownOf x p k → Sees it_is k
+  sees e = record { states = e.states; entries = e.entries; invokes = e.invokes; parameters = e.parameters; ids = e.ids; docs = e.docs; used = e.used; transitions = e.transitions; regions = e.regions }
+
+  -- Numbers that do not fit, in the order in which the code asks.
   pub not_rising : {b : Bool} → b ≡ rises 0 tr → b ≡ false → false ≡ rules_kept limits01 it_is
   unfolding numbers_fit
   not_rising e f = unfit it_is (rw (← e, f))

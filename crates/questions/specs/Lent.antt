@@ -1,27 +1,24 @@
--- What is lent, as the definition has it, and what questions 1 and 2 ask of it, in the order in which the code asks.
-use Rattle.std.specs.Prelude.{ℕ, ◌≤◌, ◌≡◌, Bool, true, false, ◌&&◌, List, [], ◌∷◌, length, leb}
+-- What questions 1 and 2 ask of what is lent, in the order in which the code asks.
+use Rattle.std.specs.Prelude.{ℕ, ◌≤◌, ◌≡◌, Bool, true, false, ◌&&◌, List, length, leb, Result, Ok, Err}
 use Rattle.definition.specs.Limits.{limits01}
 use Rattle.definition.specs.declared.Limits.{Limits}
 use Rattle.definition.specs.declared.Position.{Position}
 use Rattle.definition.specs.Rows.{Table, table, schema, table_of, Store}
 use Rattle.definition.specs.Rules.{tables_keep, names_distinct, numbers_fit, open_names_fit, open_regions_fit, is_row_or_zero, table_limits}
 use Rattle.definition.specs.Reader as R
-use Rattle.columns.specs.declared.Known.{Known}
+use Rattle.definition.specs.declared.codes.Refusal.{Refusal}
+use Rattle.definition.specs.Codes.{refusal_number}
+use Rattle.columns.specs.declared.numbered.Known.{Known}
 use Rattle.columns.specs.Sees.{Sees}
-
-abbrev pub tables : Table → Table → Table → Table → Table → Table → Table → Table → Table → Table → Table → Table → List Table
-tables ch st tr re en iv da pa me op on or = ch ∷ st ∷ tr ∷ re ∷ en ∷ iv ∷ da ∷ pa ∷ me ∷ op ∷ on ∷ or ∷ []
-
-abbrev pub lent : List Table → List ℕ → R.Lent
-lent ts text = record { tables = ts; text = text }
+use Rattle.rows.specs.declared.lent.Tables.{Tables}
 
 -- Tables and a text that are in use as a whole.
 abbrev pub store : List Table → List ℕ → Position → Store
 store ts text p = record { numbers = record { tables = ts; current = p.current.0; ids = p.ids; docs = p.docs; names = p.names; charge = p.charge }; text = text }
 
 -- r says whether the rows of all tables keep their classes, in every store that is seen so.
-abbrev pub TablesTest : Known → Table → Table → List Table → Bool → Type 0
-TablesTest k ts rs all r = (s : Store) → Sees s k ts rs → r ≡ tables_keep s schema all
+abbrev pub TablesTest : Known → List Table → Bool → Type 0
+TablesTest k all r = (s : Store) → Sees s k → r ≡ tables_keep s schema all
 
 -- The rules but for limits and counters.
 unfoldable pub rules_kept : Limits → Store → Bool
@@ -39,9 +36,17 @@ pub record Few (st en iv pa : Table) (bytes : List ℕ) : Type 0 where
   pub parameters : length pa ≤ limits01.parameters
   pub text : length bytes ≤ limits01.charge
 
-abbrev pub known_of : Table → Table → Table → Table → List ℕ → Position → Known
-known_of st en iv pa bytes p =
-    record { states = length st; entries = length en; invokes = length iv; parameters = length pa; ids = p.ids; docs = p.docs; used = length bytes }
+-- What the rows of these tables are held against.
+pub record KnownOf (x : Tables) (p : Position) (k : Known) : Type 0 where
+  pub transitions : x.transitions.now ≡ k.transitions.now
+  pub regions : x.regions.now ≡ k.regions.now
+  pub states : length x.states.now ≡ k.states
+  pub entries : length x.entries.now ≡ k.entries
+  pub invokes : length x.invokes.now ≡ k.invokes
+  pub parameters : length x.parameters.now ≡ k.parameters
+  pub ids : p.ids ≡ k.ids
+  pub docs : p.docs ≡ k.docs
+  pub used : length x.text.now ≡ k.used
 
 -- The counts of rows keep the limits; the counters do, and the charge covers the text.
 unfoldable pub counts_fit : Position → Bool
@@ -55,3 +60,8 @@ counters_fit p stored =
 -- The first no of questions 1 and 2; 0: both yes.
 unfoldable pub first_two : R.Lent → Position → ℕ
 first_two x p = elim (R.long_enough limits01 x) [ false ↦ 1 | true ↦ elim (R.in_order limits01 x p) [ false ↦ 2 | true ↦ 0 ] ]
+
+-- The number of a no; 0: yes.
+abbrev pub number_of : {T : Type 0} → Result T Refusal → ℕ
+number_of (Ok x) = 0
+number_of (Err e) = refusal_number e

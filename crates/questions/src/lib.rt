@@ -5,114 +5,76 @@
 ghost use Rattle.std.specs.Prelude.{◌≡◌, ◌<◌, ◌^◌};
 ghost use Rattle.definition.specs.Limits.{limits01};
 ghost use Rattle.definition.specs.Reader.{long_enough, in_order};
-ghost use Rattle.columns.specs.Sees.{Rising};
-ghost use Rattle.questions.specs.Lent.{TablesTest, tables, lent, store, rules_kept, Few, known_of, counts_fit, counters_fit, first_two};
+ghost use Rattle.columns.specs.Rising.{Rising};
+ghost use Rattle.rows.specs.Lent.{seen_of};
+ghost use Rattle.questions.specs.Lent.{TablesTest, store, rules_kept, Few, KnownOf, counts_fit, counters_fit, first_two, number_of};
 
-use columns::{Known, region_or_zero};
+use columns::numbered::Known;
+use definition::codes::Refusal;
 use definition::{Chart, Position};
-use order::{blocks_in, names_keep, names_lead, none_in, open_names_fit, open_tags_fit, rises};
-use rows::{first_8, first_24, first_48, first_bytes, first_names, index};
-use rules::{rows_keep_8, rows_keep_24, rows_keep_48};
-
-fn count(n: usize) -> u32
-    requires { n < 2 ^ 32 }
-    ensures { result ≡ n }
-{
-    n as u32
-}
+use order::{blocks_in, name_keeps, names_lead, none_in, open_names_fit, open_tags_fit, rises};
+use rows::lent::Tables;
+use rules::{
+    chart_keeps, datum_keeps, entry_keeps, invoke_keeps, member_keeps, open_region_keeps,
+    opened_keeps, parameter_keeps, region_keeps, rows_keep, state_keeps, transition_keeps,
+};
 
 // What the rows are held against.
-fn known(
-    states: &[[u32; 24]],
-    entries: &[[u32; 48]],
-    invokes: &[[u32; 24]],
-    parameters: &[[u32; 8]],
-    text: &[u8],
-    p: Position,
-) -> Known
-    requires { Few states.now entries.now invokes.now parameters.now text.now }
-    ensures { result ≡ known_of states.now entries.now invokes.now parameters.now text.now p }
+fn known<'a>(tables: Tables<'a>, p: Position) -> Known<'a>
+    requires few { Few tables.states.now tables.entries.now tables.invokes.now tables.parameters.now tables.text.now }
+    requires rising { Rising tables.transitions.now × Rising tables.regions.now }
+    ensures { KnownOf tables.entry p result }
 {
-    let in_states = count(states.len());
-    let in_entries = count(entries.len());
-    let in_invokes = count(invokes.len());
-    let in_parameters = count(parameters.len());
-    let used = count(text.len());
     Known {
-        states: in_states,
-        entries: in_entries,
-        invokes: in_invokes,
-        parameters: in_parameters,
+        transitions: tables.transitions,
+        regions: tables.regions,
+        states: tables.states.len() as u32,
+        entries: tables.entries.len() as u32,
+        invokes: tables.invokes.len() as u32,
+        parameters: tables.parameters.len() as u32,
         ids: p.ids,
         docs: p.docs,
-        used: used,
+        used: tables.text.len() as u32,
     }
 }
 
 // Every row of every table.
-fn rows_kept(
-    chart: &[[u32; 24]],
-    states: &[[u32; 24]],
-    transitions: &[[u32; 8]],
-    regions: &[[u32; 8]],
-    entries: &[[u32; 48]],
-    invokes: &[[u32; 24]],
-    datums: &[[u32; 8]],
-    parameters: &[[u32; 8]],
-    members: &[[u32; 8]],
-    opened: &[[u32; 8]],
-    open_names: &[[u8; 64]],
-    open_regions: &[[u32; 8]],
-    k: Known,
-) -> bool
-    requires { Rising transitions.now × Rising regions.now }
-    ensures { TablesTest k transitions.now regions.now (tables chart.now states.now transitions.now regions.now entries.now invokes.now datums.now parameters.now members.now opened.now open_names.now open_regions.now) result }
+fn rows_kept(tables: Tables<'_>, k: &Known<'_>) -> bool
+    ensures { TablesTest k.now (seen_of tables.entry).tables result }
 {
-    rows_keep_24(rules::CHART, chart, k, transitions, regions)
-        & (rows_keep_24(rules::STATES, states, k, transitions, regions)
-            & (rows_keep_8(rules::TRANSITIONS, transitions, k, transitions, regions)
-                & (rows_keep_8(rules::REGIONS, regions, k, transitions, regions)
-                    & (rows_keep_48(entries, k, transitions, regions)
-                        & (rows_keep_24(rules::INVOKES, invokes, k, transitions, regions)
-                            & (rows_keep_8(rules::DATA, datums, k, transitions, regions)
-                                & (rows_keep_8(
-                                    rules::PARAMETERS,
-                                    parameters,
-                                    k,
-                                    transitions,
-                                    regions,
-                                ) & (rows_keep_8(rules::MEMBERS, members, k, transitions, regions)
-                                    & (rows_keep_8(rules::OPENED, opened, k, transitions, regions)
-                                        & (names_keep(open_names, k, transitions, regions)
-                                            & rows_keep_8(
-                                                rules::OPEN_REGIONS,
-                                                open_regions,
-                                                k,
-                                                transitions,
-                                                regions,
-                                            )))))))))))
+    rows_keep(tables.chart, k, chart_keeps)
+        & (rows_keep(tables.states, k, state_keeps)
+            & (rows_keep(tables.transitions, k, transition_keeps)
+                & (rows_keep(tables.regions, k, region_keeps)
+                    & (rows_keep(tables.entries, k, entry_keeps)
+                        & (rows_keep(tables.invokes, k, invoke_keeps)
+                            & (rows_keep(tables.datums, k, datum_keeps)
+                                & (rows_keep(tables.parameters, k, parameter_keeps)
+                                    & (rows_keep(tables.members, k, member_keeps)
+                                        & (rows_keep(tables.opened, k, opened_keeps)
+                                            & (rows_keep(tables.open_names, k, name_keeps)
+                                                & rows_keep(
+                                                    tables.open_regions,
+                                                    k,
+                                                    open_region_keeps,
+                                                )))))))))))
 }
 
-// The rules but for limits and counters, of slices that are in use as a whole.
-fn rules_kept(
-    chart: &[[u32; 24]],
-    states: &[[u32; 24]],
-    transitions: &[[u32; 8]],
-    regions: &[[u32; 8]],
-    entries: &[[u32; 48]],
-    invokes: &[[u32; 24]],
-    datums: &[[u32; 8]],
-    parameters: &[[u32; 8]],
-    members: &[[u32; 8]],
-    opened: &[[u32; 8]],
-    open_names: &[[u8; 64]],
-    open_regions: &[[u32; 8]],
-    text: &[u8],
-    p: Position,
-) -> bool
-    requires { Few states.now entries.now invokes.now parameters.now text.now }
-    ensures { result ≡ rules_kept limits01 (store (tables chart.now states.now transitions.now regions.now entries.now invokes.now datums.now parameters.now members.now opened.now open_names.now open_regions.now) text.now p) }
+// The rules but for limits and counters, of tables that are in use as a whole.
+fn rules_kept(tables: Tables<'_>, p: Position) -> bool
+    requires { Few tables.states.now tables.entries.now tables.invokes.now tables.parameters.now tables.text.now }
+    ensures { result ≡ rules_kept limits01 (store (seen_of tables.entry).tables tables.entry.text.now p) }
 {
+    let Tables {
+        states,
+        transitions,
+        regions,
+        opened,
+        open_names,
+        open_regions,
+        text,
+        ..
+    } = tables;
     if !rises(transitions) {
         return false;
     }
@@ -122,44 +84,31 @@ fn rules_kept(
     if !none_in(regions, transitions) {
         return false;
     }
-    let k = known(states, entries, invokes, parameters, text, p);
-    rows_kept(
-        chart,
-        states,
-        transitions,
-        regions,
-        entries,
-        invokes,
-        datums,
-        parameters,
-        members,
-        opened,
-        open_names,
-        open_regions,
-        k,
-    ) & names_lead(text, states)
+    let k = known(tables, p);
+    rows_kept(tables, &k)
+        & names_lead(text, states)
         & open_names_fit(opened, open_names)
         & (open_tags_fit(open_regions) & (blocks_in(1, open_regions) <= blocks_in(0, opened)))
-        & region_or_zero(regions, p.current)
+        & k.region_or_zero(p.current)
 }
 
 fn counts_fit(p: Position) -> bool
     ensures { result ≡ counts_fit p }
 {
-    ((p.states <= Chart::STATES)
-        & ((p.transitions <= Chart::TRANSITIONS)
-            & ((p.regions <= Chart::REGIONS)
-                & ((p.entries <= Chart::ENTRIES)
-                    & ((p.invokes <= Chart::INVOKES)
-                        & ((p.datums <= Chart::DATA)
-                            & ((p.parameters <= Chart::PARAMETERS)
-                                & ((p.members <= Chart::MEMBERS)
-                                    & ((p.opened <= Chart::OPENED)
-                                        & ((p.opened <= Chart::OPENED)
-                                            & (p.open_regions <= 2 * Chart::OPENED)))))))))))
+    (p.states <= Chart::STATES)
+        & (p.transitions <= Chart::TRANSITIONS)
+        & (p.regions <= Chart::REGIONS)
+        & (p.entries <= Chart::ENTRIES)
+        & (p.invokes <= Chart::INVOKES)
+        & (p.datums <= Chart::DATA)
+        & (p.parameters <= Chart::PARAMETERS)
+        & (p.members <= Chart::MEMBERS)
+        & (p.opened <= Chart::OPENED)
+        & (p.open_regions <= 2 * Chart::OPENED)
         & (p.used <= Chart::CHARGE)
 }
 
+#[tactic(auto, unfolding(crate::specs::Lent::counters_fit))]
 fn counters_fit(p: Position, stored: usize) -> bool
     ensures { result ≡ counters_fit p stored }
 {
@@ -167,140 +116,52 @@ fn counters_fit(p: Position, stored: usize) -> bool
         & (p.docs <= Chart::DRAWN)
         & (p.names <= Chart::DRAWN)
         & (p.charge <= Chart::CHARGE)
-        & (stored <= index(p.charge))
+        & (stored <= p.charge as usize)
 }
 
 /// Question 2.
-pub fn in_order(
-    chart: &[[u32; 24]],
-    states: &[[u32; 24]],
-    transitions: &[[u32; 8]],
-    regions: &[[u32; 8]],
-    entries: &[[u32; 48]],
-    invokes: &[[u32; 24]],
-    datums: &[[u32; 8]],
-    parameters: &[[u32; 8]],
-    members: &[[u32; 8]],
-    opened: &[[u32; 8]],
-    open_names: &[[u8; 64]],
-    open_regions: &[[u32; 8]],
-    text: &[u8],
-    p: Position,
-) -> bool
-    ensures { result ≡ in_order limits01 (lent (tables chart.now states.now transitions.now regions.now entries.now invokes.now datums.now parameters.now members.now opened.now open_names.now open_regions.now) text.now) p }
+pub fn in_order(tables: Tables<'_>, p: Position) -> bool
+    ensures { result ≡ in_order limits01 (seen_of tables.entry) p }
 {
     if !counts_fit(p) {
         return false;
     }
-    let stored = first_bytes(text, p.used);
-    if !counters_fit(p, stored.len()) {
+    let used = tables.in_use(p);
+    if !counters_fit(p, used.text.len()) {
         return false;
     }
-    rules_kept(
-        first_24(chart, 1),
-        first_24(states, p.states),
-        first_8(transitions, p.transitions),
-        first_8(regions, p.regions),
-        first_48(entries, p.entries),
-        first_24(invokes, p.invokes),
-        first_8(datums, p.datums),
-        first_8(parameters, p.parameters),
-        first_8(members, p.members),
-        first_8(opened, p.opened),
-        first_names(open_names, p.opened),
-        first_8(open_regions, p.open_regions),
-        stored,
-        p,
-    )
+    rules_kept(used, p)
 }
 
 /// Question 1.
-pub fn long_enough(
-    chart: &[[u32; 24]],
-    states: &[[u32; 24]],
-    transitions: &[[u32; 8]],
-    regions: &[[u32; 8]],
-    entries: &[[u32; 48]],
-    invokes: &[[u32; 24]],
-    datums: &[[u32; 8]],
-    parameters: &[[u32; 8]],
-    members: &[[u32; 8]],
-    opened: &[[u32; 8]],
-    open_names: &[[u8; 64]],
-    open_regions: &[[u32; 8]],
-    text: &[u8],
-) -> bool
-    ensures { result ≡ long_enough limits01 (lent (tables chart.now states.now transitions.now regions.now entries.now invokes.now datums.now parameters.now members.now opened.now open_names.now open_regions.now) text.now) }
+pub fn long_enough(tables: Tables<'_>) -> bool
+    ensures { result ≡ long_enough limits01 (seen_of tables.entry) }
 {
-    ((1 <= chart.len())
-        & ((Chart::STATES as usize <= states.len())
-            & ((Chart::TRANSITIONS as usize <= transitions.len())
-                & ((Chart::REGIONS as usize <= regions.len())
-                    & ((Chart::ENTRIES as usize <= entries.len())
-                        & ((Chart::INVOKES as usize <= invokes.len())
-                            & ((Chart::DATA as usize <= datums.len())
-                                & ((Chart::PARAMETERS as usize <= parameters.len())
-                                    & ((Chart::MEMBERS as usize <= members.len())
-                                        & ((Chart::OPENED as usize <= opened.len())
-                                            & ((Chart::OPENED as usize <= open_names.len())
-                                                & (2 * Chart::OPENED as usize
-                                                    <= open_regions.len()))))))))))))
-        & (Chart::CHARGE as usize <= text.len())
+    (1 <= tables.chart.len())
+        & (Chart::STATES as usize <= tables.states.len())
+        & (Chart::TRANSITIONS as usize <= tables.transitions.len())
+        & (Chart::REGIONS as usize <= tables.regions.len())
+        & (Chart::ENTRIES as usize <= tables.entries.len())
+        & (Chart::INVOKES as usize <= tables.invokes.len())
+        & (Chart::DATA as usize <= tables.datums.len())
+        & (Chart::PARAMETERS as usize <= tables.parameters.len())
+        & (Chart::MEMBERS as usize <= tables.members.len())
+        & (Chart::OPENED as usize <= tables.opened.len())
+        & (Chart::OPENED as usize <= tables.open_names.len())
+        & (2 * Chart::OPENED as usize <= tables.open_regions.len())
+        & (Chart::CHARGE as usize <= tables.text.len())
 }
 
-/// Questions 1 and 2: the first no, or 0.
-pub fn asked(
-    chart: &[[u32; 24]],
-    states: &[[u32; 24]],
-    transitions: &[[u32; 8]],
-    regions: &[[u32; 8]],
-    entries: &[[u32; 48]],
-    invokes: &[[u32; 24]],
-    datums: &[[u32; 8]],
-    parameters: &[[u32; 8]],
-    members: &[[u32; 8]],
-    opened: &[[u32; 8]],
-    open_names: &[[u8; 64]],
-    open_regions: &[[u32; 8]],
-    text: &[u8],
-    p: Position,
-) -> u32
-    ensures { result ≡ first_two (lent (tables chart.now states.now transitions.now regions.now entries.now invokes.now datums.now parameters.now members.now opened.now open_names.now open_regions.now) text.now) p }
+/// Questions 1 and 2, or the first no.
+#[tactic(auto, unfolding(crate::specs::Lent::first_two))]
+pub fn asked(tables: Tables<'_>, p: Position) -> Result<(), Refusal>
+    ensures { number_of result ≡ first_two (seen_of tables.entry) p }
 {
-    if !long_enough(
-        chart,
-        states,
-        transitions,
-        regions,
-        entries,
-        invokes,
-        datums,
-        parameters,
-        members,
-        opened,
-        open_names,
-        open_regions,
-        text,
-    ) {
-        return 1;
+    if !long_enough(tables) {
+        return Err(Refusal::TooShort);
     }
-    if !in_order(
-        chart,
-        states,
-        transitions,
-        regions,
-        entries,
-        invokes,
-        datums,
-        parameters,
-        members,
-        opened,
-        open_names,
-        open_regions,
-        text,
-        p,
-    ) {
-        return 2;
+    if !in_order(tables, p) {
+        return Err(Refusal::OutOfOrder);
     }
-    0
+    Ok(())
 }

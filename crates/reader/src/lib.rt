@@ -5,199 +5,74 @@
 ghost use Rattle.std.specs.Prelude.{◌≡◌};
 ghost use Rattle.definition.specs.Limits.{limits01};
 ghost use Rattle.definition.specs.Reader as R;
-ghost use Rattle.questions.specs.Lent.{tables, lent};
+ghost use Rattle.rows.specs.Lent.{lent_of, seen_of, SameLoans};
 ghost use Rattle.reading.specs.Bytes.{out_of, row_out};
 ghost use Rattle.conclude.specs.Fed.{given};
 ghost use Rattle.streams.specs.Stream.{ended};
-ghost use Rattle.reader.specs.First.{first_of};
 
-use conclude::{Answer, refuse};
+use conclude::Answer;
 use definition::Position;
 use event::one_event;
 use questions::asked;
 use reading::read_row_bytes;
-use streams::{Streamed, end, feed_all};
-
-// The first no of two numbers.
-fn first_of(one: u32, other: u32) -> u32
-    ensures { result ≡ first_of one other }
-{
-    if one != 0 {
-        return one;
-    }
-    other
-}
-
-fn answer_of(s: Streamed) -> Answer
-    ensures { result ≡ record { number = s.number; position = s.position } }
-{
-    let position = s.position;
-    Answer {
-        number: s.number,
-        position: position,
-    }
-}
+use rows::lent::{Lent, Tables};
+use streams::{Streamed, feed_all};
 
 /// One event, as a stream of one: the questions 1 to 15. Nothing changes with a refusal.
-pub fn chart_event(
-    chart: &mut [[u32; 24]],
-    states: &mut [[u32; 24]],
-    transitions: &mut [[u32; 8]],
-    regions: &mut [[u32; 8]],
-    entries: &mut [[u32; 48]],
-    invokes: &mut [[u32; 24]],
-    datums: &mut [[u32; 8]],
-    parameters: &mut [[u32; 8]],
-    members: &mut [[u32; 8]],
-    opened: &mut [[u32; 8]],
-    names: &mut [[u8; 64]],
-    pending: &mut [[u32; 8]],
-    text: &mut [u8],
-    p: Position,
-    raw: &[u8],
-) -> Answer
-    ensures { given result.number result.position (lent (tables chart.new states.new transitions.new regions.new entries.new invokes.new datums.new parameters.new members.new opened.new names.new pending.new) text.new) ≡ R.call limits01 (lent (tables chart.old states.old transitions.old regions.old entries.old invokes.old datums.old parameters.old members.old opened.old names.old pending.old) text.old) p (R.event raw.now) }
+pub fn chart_event(lent: &mut Lent<'_>, p: Position, raw: &[u8]) -> Answer
+    ensures answer { given result.number result.position (lent_of lent.new) ≡ R.call limits01 (lent_of lent.old) p (R.event raw.now) }
+    ensures loans { SameLoans lent.old lent.new }
 {
-    let first = asked(
-        chart,
-        states,
-        transitions,
-        regions,
-        entries,
-        invokes,
-        datums,
-        parameters,
-        members,
-        opened,
-        names,
-        pending,
-        text,
-        p,
-    );
-    let no = first_of(first, one_event(raw));
-    if no != 0 {
-        return refuse(no, p);
+    if let Err(no) = asked(lent.tables(), p) {
+        return Answer {
+            number: no.number(),
+            position: p,
+        };
     }
-    let s = feed_all(
-        chart,
-        states,
-        transitions,
-        regions,
-        entries,
-        invokes,
-        datums,
-        parameters,
-        members,
-        opened,
-        names,
-        pending,
-        text,
-        p,
-        raw,
-    );
-    answer_of(s)
+    if let Err(no) = one_event(raw) {
+        return Answer {
+            number: no.number(),
+            position: p,
+        };
+    }
+    let fed = feed_all(lent, p, raw);
+    Answer {
+        number: fed.number,
+        position: fed.position,
+    }
 }
 
 /// The events of a stream one after another, up to the first refusal. A stream without an event is asked nothing.
-pub fn chart_stream(
-    chart: &mut [[u32; 24]],
-    states: &mut [[u32; 24]],
-    transitions: &mut [[u32; 8]],
-    regions: &mut [[u32; 8]],
-    entries: &mut [[u32; 48]],
-    invokes: &mut [[u32; 24]],
-    datums: &mut [[u32; 8]],
-    parameters: &mut [[u32; 8]],
-    members: &mut [[u32; 8]],
-    opened: &mut [[u32; 8]],
-    names: &mut [[u8; 64]],
-    pending: &mut [[u32; 8]],
-    text: &mut [u8],
-    p: Position,
-    bytes: &[u8],
-) -> Streamed
-    ensures { ended result.number result.event result.position (lent (tables chart.new states.new transitions.new regions.new entries.new invokes.new datums.new parameters.new members.new opened.new names.new pending.new) text.new) ≡ R.stream limits01 (lent (tables chart.old states.old transitions.old regions.old entries.old invokes.old datums.old parameters.old members.old opened.old names.old pending.old) text.old) p bytes.now }
+pub fn chart_stream(lent: &mut Lent<'_>, p: Position, bytes: &[u8]) -> Streamed
+    ensures stream { ended result.number result.event result.position (lent_of lent.new) ≡ R.stream limits01 (lent_of lent.old) p bytes.now }
+    ensures loans { SameLoans lent.old lent.new }
 {
-    if bytes.len() == 0 {
-        return end(0, 0, p);
+    if bytes.is_empty() {
+        return Streamed {
+            number: 0,
+            event: 0,
+            position: p,
+        };
     }
-    let first = asked(
-        chart,
-        states,
-        transitions,
-        regions,
-        entries,
-        invokes,
-        datums,
-        parameters,
-        members,
-        opened,
-        names,
-        pending,
-        text,
-        p,
-    );
-    if first != 0 {
-        return end(first, 1, p);
+    if let Err(first) = asked(lent.tables(), p) {
+        return Streamed {
+            number: first.number(),
+            event: 1,
+            position: p,
+        };
     }
-    feed_all(
-        chart,
-        states,
-        transitions,
-        regions,
-        entries,
-        invokes,
-        datums,
-        parameters,
-        members,
-        opened,
-        names,
-        pending,
-        text,
-        p,
-        bytes,
-    )
+    feed_all(lent, p, bytes)
 }
 
 /// A row by kind and number, as bytes.
 pub fn chart_read_row(
-    chart: &[[u32; 24]],
-    states: &[[u32; 24]],
-    transitions: &[[u32; 8]],
-    regions: &[[u32; 8]],
-    entries: &[[u32; 48]],
-    invokes: &[[u32; 24]],
-    datums: &[[u32; 8]],
-    parameters: &[[u32; 8]],
-    members: &[[u32; 8]],
-    opened: &[[u32; 8]],
-    open_names: &[[u8; 64]],
-    open_regions: &[[u32; 8]],
-    text: &[u8],
+    tables: Tables<'_>,
     p: Position,
     kind: u32,
     number: u32,
     out: &mut [u8],
 ) -> u32
-    ensures { out_of result out.new ≡ row_out (R.call limits01 (lent (tables chart.now states.now transitions.now regions.now entries.now invokes.now datums.now parameters.now members.now opened.now open_names.now open_regions.now) text.now) p (R.reading kind number)) out.old }
+    ensures { out_of result out.new ≡ row_out (R.call limits01 (seen_of tables.entry) p (R.reading kind number)) out.old }
 {
-    read_row_bytes(
-        chart,
-        states,
-        transitions,
-        regions,
-        entries,
-        invokes,
-        datums,
-        parameters,
-        members,
-        opened,
-        open_names,
-        open_regions,
-        text,
-        p,
-        kind,
-        number,
-        out,
-    )
+    read_row_bytes(tables, p, kind, number, out)
 }

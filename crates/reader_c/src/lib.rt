@@ -5,13 +5,14 @@
 ghost use Rattle.std.specs.Prelude.{◌≡◌};
 ghost use Rattle.definition.specs.Limits.{limits01};
 ghost use Rattle.definition.specs.Reader as R;
-ghost use Rattle.questions.specs.Lent.{tables, lent};
+ghost use Rattle.rows.specs.Lent.{tables, lent};
 ghost use Rattle.reading.specs.Bytes.{out_of, row_out};
 ghost use Rattle.conclude.specs.Fed.{given};
 ghost use Rattle.streams.specs.Stream.{ended};
 
 use conclude::Answer;
 use definition::Position;
+use rows::lent::{Lent, Tables};
 use streams::Streamed;
 
 /// One event, as a stream of one: the questions 1 to 15. Nothing changes with a refusal.
@@ -35,7 +36,7 @@ pub extern "C" fn chart_event(
 ) -> Answer
     ensures { given result.number result.position (lent (tables chart.new states.new transitions.new regions.new entries.new invokes.new datums.new parameters.new members.new opened.new names.new pending.new) text.new) ≡ R.call limits01 (lent (tables chart.old states.old transitions.old regions.old entries.old invokes.old datums.old parameters.old members.old opened.old names.old pending.old) text.old) p (R.event raw.now) }
 {
-    reader::chart_event(
+    let mut lent = Lent {
         chart,
         states,
         transitions,
@@ -46,12 +47,11 @@ pub extern "C" fn chart_event(
         parameters,
         members,
         opened,
-        names,
-        pending,
+        open_names: names,
+        open_regions: pending,
         text,
-        p,
-        raw,
-    )
+    };
+    reader::chart_event(&mut lent, p, raw)
 }
 
 /// The events of a stream one after another, up to the first refusal. A stream without an event is asked nothing.
@@ -75,7 +75,7 @@ pub extern "C" fn chart_stream(
 ) -> Streamed
     ensures { ended result.number result.event result.position (lent (tables chart.new states.new transitions.new regions.new entries.new invokes.new datums.new parameters.new members.new opened.new names.new pending.new) text.new) ≡ R.stream limits01 (lent (tables chart.old states.old transitions.old regions.old entries.old invokes.old datums.old parameters.old members.old opened.old names.old pending.old) text.old) p bytes.now }
 {
-    reader::chart_stream(
+    let mut lent = Lent {
         chart,
         states,
         transitions,
@@ -86,12 +86,11 @@ pub extern "C" fn chart_stream(
         parameters,
         members,
         opened,
-        names,
-        pending,
+        open_names: names,
+        open_regions: pending,
         text,
-        p,
-        bytes,
-    )
+    };
+    reader::chart_stream(&mut lent, p, bytes)
 }
 
 /// A row by kind and number, as bytes.
@@ -117,7 +116,7 @@ pub extern "C" fn chart_read_row(
 ) -> u32
     ensures { out_of result out.new ≡ row_out (R.call limits01 (lent (tables chart.now states.now transitions.now regions.now entries.now invokes.now datums.now parameters.now members.now opened.now open_names.now open_regions.now) text.now) p (R.reading kind number)) out.old }
 {
-    reader::chart_read_row(
+    let tables = Tables {
         chart,
         states,
         transitions,
@@ -131,9 +130,6 @@ pub extern "C" fn chart_read_row(
         open_names,
         open_regions,
         text,
-        p,
-        kind,
-        number,
-        out,
-    )
+    };
+    reader::chart_read_row(tables, p, kind, number, out)
 }

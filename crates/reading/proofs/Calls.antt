@@ -9,10 +9,15 @@ use borrow.Author.Tests.{lt-leb, le-leb}
 use Rattle.definition.specs.Limits.{limits01}
 use Rattle.definition.specs.declared.Position.{Position}
 use Rattle.definition.specs.Reader.{Lent, Answer, reading, call, answer_to, long_enough, in_order, refused, exists, store_of}
+use Rattle.definition.specs.declared.codes.Refusal.{Refusal}
+use Rattle.definition.specs.Codes.{refusal_number}
 use Rattle.questions.specs.Lent.{first_two}
 use Rattle.reading.specs.Bytes.{row_bytes, out_of, row_out}
-use Rattle.reading.specs.declared.Reading.{Reading}
+use Rattle.reading.specs.Read.{Reading}
 use Rattle.reading.specs.Read.{read_of, reading_of, refusal}
+
+pub some_number : (e : Refusal) → refusal_number e ≡ 0 → ⊥
+some_number e = grind arith
 
 module _ (x : Lent) (p : Position) (t i : ℕ) {k : ℕ} (e : k ≡ first_two x p) where
   pub read_refused : (k ≡ 0 → ⊥) → refusal k ≡ reading_of (call limits01 x p (reading t i))

@@ -3,11 +3,10 @@ use mathlib.Core.Path.{◌≡◌, refl, sym, ap, ◌∙◌}
 use mathlib.Core.Bool.{Bool, true, false, ◌&&◌}
 use mathlib.Core.List.{List, [], ◌∷◌, ◌++◌}
 use Prim.Native.Nat.{ℕ, zero, suc, ◌+◌, ◌-◌, ◌≤◌, ◌<◌}
-use native.Mathlib.Numerals.{add-one}
 use native.Mathlib.Omega.{arith}
 use lib.Dec.{eqb, leb, ltb}
-use lib.ListN.{length, get_or, take, drop, set, replicate, length-set}
-use lib.Seq.{paste, paste-zero, paste-suc, take-append-add, take-length}
+use lib.ListN.{length, get_or, take, drop, replicate}
+use lib.Seq.{take-append-add}
 use borrow.Author.Tests.{eq-eqb, ne_eqb, lt-ltb, le-ltb, le-leb, lt-leb}
 use Rattle.definition.specs.Elements.{among}
 use Rattle.definition.specs.Rows.{Row, Table, Cell, num, row_of, cell_at, with_cell, root, Numbers, table_of}
@@ -32,33 +31,13 @@ drop_zeros k zero n e = let z : n ≡ k = omega arith in rw z
 drop_zeros k (suc j) zero e = let z : ⊥ = omega arith in absurd z
 drop_zeros k (suc j) (suc n) e = drop_zeros k j n (omega arith)
 
-module _ (r : Row) (fits : length r ≤ 48) where
-  pub record Widened (i : ℕ) (w : List ℕ) : Type 0 where
-    pub most : i ≤ length r
-    pub width : length w ≡ 50
-    pub is : w ≡ paste (zs 50) 0 r i
-
-  pub wide_none : Widened 0 (zs 50)
-  wide_none = record { most = omega arith; width = refl; is = paste-zero (zs 50) 0 r }
-
-  pub wide_more : (i : ℕ) (w : List ℕ) → i < length r → Widened i w → Widened (i + 1) (set w i (get_or r i 0))
-  wide_more i w h x = record { most = omega arith; width = length-set w i (get_or r i 0) ∙ x.width; is = let z : 0 + i ≡ i = omega arith in rw (x.is, add-one i, z) (rw z at (paste-suc (zs 50) 0 r i 0 (omega arith) h)) }
-
-  pub wide_all : (i : ℕ) (w : List ℕ) → length r ≤ i → Widened i w → w ≡ widened r
-  unfolding widened
-  wide_all i w h x =
-      let e : i ≡ length r = omega (arith, x.most) in
-      x.is ∙ rw e pasted
-    where
-      pasted : paste (zs 50) 0 r (length r) ≡ take 50 (r ++ zs 50)
-      pasted =
-          let k : ℕ = 50 - length r in
-          let a : length r + k ≡ 50 = omega arith in
-          let d : drop (length r) (zs 50) ≡ zs k = drop_zeros k (length r) 50 a in
-          let b : take 50 (r ++ zs 50) ≡ r ++ zs k = ap (λ (n : ℕ). take n (r ++ zs 50)) (sym a) ∙ take-append-add r (zs 50) k ∙ ap (λ (l : List ℕ). r ++ l) (take_zeros k 50 (omega arith)) in
-          let z : 0 + length r ≡ length r = omega arith in
-          let g : paste (zs 50) 0 r (length r) ≡ r ++ zs k = rw (z, take-length r, d) in
-          g ∙ sym b
+pub wide : {r w : Row} → length r ≤ 48 → w ≡ r → w ++ drop (length r) (zs 50) ≡ widened r
+unfolding widened
+wide {r} {w} fits e =
+    let k : ℕ = 50 - length r in
+    let a : length r + k ≡ 50 = omega arith in
+    let b : take 50 (r ++ zs 50) ≡ r ++ zs k = ap (λ (n : ℕ). take n (r ++ zs 50)) (sym a) ∙ take-append-add r (zs 50) k ∙ ap (λ (l : List ℕ). r ++ l) (take_zeros k 50 (omega arith)) in
+    rw (e, drop_zeros k (length r) 50 a, b)
 
 -- ---- places
 
@@ -225,12 +204,3 @@ parameter_read_lem n i = go (place_of n 7 i) refl (eqb (num (row_of (table_of n 
     go zero e false f = rw (f, parameter_read, ← pl, e, read_of, read_at)
     go (suc k) e true f = let h : leb 1 (suc k) ≡ true = le-leb 1 (suc k) (omega arith) in rw (f, parameter_read, e, h, read_of)
     go (suc k) e false f = let h : leb 1 (suc k) ≡ true = le-leb 1 (suc k) (omega arith) in rw (f, parameter_read, ← pl, e, h, read_of, read_at, read_of, e)
-
-step : (c n : ℕ) → n ≤ c → (c ≡ n → ⊥) → suc n ≤ c
-step c n h e = omega arith
-
-pub nine : (c : ℕ) → (c ≡ 0 → ⊥) → (c ≡ 1 → ⊥) → (c ≡ 2 → ⊥) → (c ≡ 3 → ⊥) → (c ≡ 4 → ⊥) → (c ≡ 5 → ⊥) → (c ≡ 6 → ⊥) → (c ≡ 7 → ⊥) → (c ≡ 8 → ⊥) → 8 < c
-nine c n0 n1 n2 n3 n4 n5 n6 n7 n8 = step c 8 (step c 7 (step c 6 (step c 5 (step c 4 (step c 3 (step c 2 (step c 1 (step c 0 zero_le n0) n1) n2) n3) n4) n5) n6) n7) n8
-  where
-    zero_le : 0 ≤ c
-    zero_le = omega arith

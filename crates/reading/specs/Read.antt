@@ -1,9 +1,18 @@
 -- A reading, kind by kind.
-use Rattle.std.specs.Prelude.{◌≡◌, true, false, ◌&&◌, [], ℕ, zero, suc, eqb, ltb, length, get_or}
+use Rattle.std.specs.Prelude.{◌≡◌, ◌-◌, ◌<◌, true, false, ◌&&◌, [], ℕ, zero, suc, eqb, ltb, length, get_or, Result, Ok, Err, MatchResult}
 use Rattle.definition.specs.Rows.{Row, Table, table, owner_kind, chart, state, parameter, shown, num, row_of, cell_at, with_cell, Numbers, table_of}
 use Rattle.definition.specs.Actions.{place_of_number}
 use Rattle.definition.specs.Reader.{Answer, no_row, widened, exists, row_read}
-use Rattle.reading.specs.declared.Reading.{Reading}
+use Rattle.definition.specs.declared.codes.Refusal.{Refusal}
+use Rattle.definition.specs.declared.codes.Refusal.TheVariants as N
+use Rattle.definition.specs.Codes.{refusal_number}
+use Rattle.reading.specs.declared.RowKind.{RowKind}
+use Rattle.reading.specs.declared.RowKind.TheVariants as K
+
+-- A number, and a row that counts where it is 0.
+pub record Reading : Type 0 where
+  pub number : ℕ
+  pub row : Row
 
 abbrev pub reading_of : Answer → Reading
 reading_of a = record { number = a.number; row = a.row }
@@ -11,6 +20,29 @@ reading_of a = record { number = a.number; row = a.row }
 unfoldable pub refusal : ℕ → Reading
 unfolding no_row
 refusal k = record { number = k; row = no_row }
+
+-- A row that is read, or a refusal; a refused one is zeros.
+abbrev pub reading_in : Result Row Refusal → Reading
+reading_in (Ok row) = record { number = 0; row = row }
+reading_in (Err e) = refusal (refusal_number e)
+
+abbrev pub kind_of : RowKind → ℕ
+kind_of K.Chart = 0
+kind_of K.State = 1
+kind_of K.Transition = 2
+kind_of K.Region = 3
+kind_of K.Entry = 4
+kind_of K.Invoke = 5
+kind_of K.Datum = 6
+kind_of K.Parameter = 7
+kind_of K.Member = 8
+
+-- The kind with this number; there is no other.
+abbrev pub Decodes : ℕ → Result RowKind Refusal → Type 0
+Decodes k r = MatchResult r (λ kind. kind_of kind ≡ k) (λ e. (e ≡ N.NoRow) × (8 < k))
+
+abbrev pub RowAt : Table → ℕ → Result Row Refusal → Type 0
+RowAt t k r = MatchResult r (λ row. (k ≡ 0 → ⊥) × (row ≡ get_or t (k - 1) [])) (λ e. (e ≡ N.NoRow) × (k ≡ 0))
 
 -- The row that is numbered by creation, from 1; the row with a number of its own. 0 where it does not exist.
 unfoldable pub placed : ℕ → ℕ → ℕ

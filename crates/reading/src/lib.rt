@@ -2,58 +2,60 @@
 
 #![tactic(auto)]
 
-ghost use Rattle.std.specs.Prelude.{◌≡◌, ◌&&◌, [], ◌++◌, ◌≤◌, ◌%◌, length, drop, eqb, ltb};
+ghost use Rattle.std.specs.Prelude.{◌≡◌, ◌&&◌, [], ◌++◌, ◌≤◌, length, drop, eqb, ltb};
 ghost use Rattle.definition.specs.Limits.{limits01};
 ghost use Rattle.definition.specs.Rows.{row_of, num, with_cell};
 ghost use Rattle.definition.specs.Reader as R;
-ghost use Rattle.questions.specs.Lent.{tables, lent};
+ghost use Rattle.rows.specs.Lent.{seen_of};
 ghost use Rattle.reading.specs.Bytes.{row_bytes, row_length, out_of, row_out};
-ghost use Rattle.reading.specs.Read.{reading_of, refusal, placed, shown_with, read_at, chart_read, parameter_read, own_place, Clean};
+ghost use Rattle.reading.specs.Read.{kind_of, Decodes, reading_in, reading_of, placed, shown_with, RowAt, read_at, chart_read, parameter_read, own_place, Clean};
 
 use definition::cells::{ChartColumn, EntryColumn, InvokeColumn, ParameterColumn, StateColumn};
-use definition::codes::OwnerKind;
+use definition::codes::{OwnerKind, Refusal};
 use definition::{Position, RegionId, StateId, TransitionId};
-use rows::{first_8, first_24, first_48, index, region_place, state_cell, transition_place};
+use questions::asked;
+use rows::lent::Tables;
+use rows::{region_place, state_cell, transition_place};
 
-/// Kinds of row by number; there is no other.
-pub const CHART: u32 = 0;
+/// Kinds of row.
+#[derive(Clone, Copy, PartialEq, Eq)]
+pub enum RowKind {
+    Chart,
+    State,
+    Transition,
+    Region,
+    Entry,
+    Invoke,
+    Datum,
+    Parameter,
+    Member,
+}
 
-pub const STATE: u32 = 1;
+impl TryFrom<u32> for RowKind {
+    type Error = Refusal;
 
-pub const TRANSITION: u32 = 2;
+    ghost try_from_gives = { Decodes };
 
-pub const REGION: u32 = 3;
-
-pub const ENTRY: u32 = 4;
-
-pub const INVOKE: u32 = 5;
-
-pub const DATUM: u32 = 6;
-
-pub const PARAMETER: u32 = 7;
-
-pub const MEMBER: u32 = 8;
+    fn try_from(kind: u32) -> Result<Self, Refusal> {
+        match kind {
+            0 => Ok(RowKind::Chart),
+            1 => Ok(RowKind::State),
+            2 => Ok(RowKind::Transition),
+            3 => Ok(RowKind::Region),
+            4 => Ok(RowKind::Entry),
+            5 => Ok(RowKind::Invoke),
+            6 => Ok(RowKind::Datum),
+            7 => Ok(RowKind::Parameter),
+            8 => Ok(RowKind::Member),
+            _ => Err(Refusal::NoRow),
+        }
+    }
+}
 
 /// A row as it is read has as many numbers as the widest table's and two for a name; as bytes it is four times as long.
 pub const WIDTH: usize = 50;
 
 pub const BYTES: usize = 200;
-
-// Whose parameter it is.
-#[derive(Clone, Copy)]
-pub struct Reading {
-    pub number: u32,
-    pub row: [u32; WIDTH],
-}
-
-fn refuse(number: u32) -> Reading
-    ensures { result ≡ refusal number }
-{
-    Reading {
-        number: number,
-        row: [0u32; WIDTH],
-    }
-}
 
 // Zeros stand behind a row; then a name's cell.
 fn show(row: &[u32], at: u32, len: u32) -> [u32; WIDTH]
@@ -61,154 +63,119 @@ fn show(row: &[u32], at: u32, len: u32) -> [u32; WIDTH]
     ensures { result ≡ with_cell 48 (record { at = at; len = len }) (R.widened row.now) }
 {
     let mut shown = [0u32; WIDTH];
-    let mut i = 0;
-    while i < row.len() {
-        shown[i] = row[i];
-        i += 1;
-    }
+    shown[..row.len()].copy_from_slice(row);
     shown[48] = at;
     shown[49] = len;
     shown
 }
 
-// A row by value has its width.
-fn show_8(row: [u32; 8]) -> [u32; WIDTH]
-    ensures { result ≡ shown_with [] 0 row }
+fn show_plain(row: &[u32]) -> [u32; WIDTH]
+    requires { length row.now ≤ 48 }
+    ensures { result ≡ shown_with [] 0 row.now }
 {
-    show(&row, 0, 0)
+    show(row, 0, 0)
 }
 
-fn show_24(row: [u32; 24], states: &[[u32; 24]], s: StateId) -> [u32; WIDTH]
-    ensures { result ≡ shown_with states.now s.0 row }
+// Entries and invokes keep a state, and show its name.
+fn show_named(row: &[u32], states: &[[u32; 24]], s: StateId) -> [u32; WIDTH]
+    requires { length row.now ≤ 48 }
+    ensures { result ≡ shown_with states.now s.0 row.now }
 {
-    show(&row, state_cell(states, s, 0), state_cell(states, s, 1))
+    show(row, state_cell(states, s, 0), state_cell(states, s, 1))
 }
 
-fn show_48(row: [u32; 48], states: &[[u32; 24]], s: StateId) -> [u32; WIDTH]
-    ensures { result ≡ shown_with states.now s.0 row }
-{
-    show(&row, state_cell(states, s, 0), state_cell(states, s, 1))
-}
-
-// Numbered by creation from 1.
+// Numbered by creation from 1; 0 where there is none.
 fn place_in(count: usize, number: u32) -> usize
     ensures value { result ≡ placed count number }
     ensures upper_bound { result ≤ count }
 {
-    let k = index(number);
-    if count < k {
+    if count < number as usize {
         return 0;
     }
-    k
+    number as usize
 }
 
-fn at_8(rows: &[[u32; 8]], place: usize) -> Reading
+fn row_at<const N: usize>(rows: &[[u32; N]], place: usize) -> Result<[u32; N], Refusal>
     requires { place ≤ length rows.now }
-    ensures { result ≡ read_at [] 0 place (row_of rows.now place) }
+    ensures { RowAt rows.now place result }
 {
     if place == 0 {
-        return refuse(16);
+        return Err(Refusal::NoRow);
     }
-    let at = place - 1;
-    let row = show_8(rows[at]);
-    Reading {
-        number: 0,
-        row: row,
-    }
+    Ok(rows[place - 1])
 }
 
 // A row that keeps no state.
-fn at_24(rows: &[[u32; 24]], place: usize) -> Reading
-    requires { place ≤ length rows.now }
-    ensures { result ≡ read_at [] 0 place (row_of rows.now place) }
+fn at<const N: usize>(rows: &[[u32; N]], place: usize) -> Result<[u32; WIDTH], Refusal>
+    requires width { N ≤ 48 }
+    requires there { place ≤ length rows.now }
+    ensures { reading_in result ≡ read_at [] 0 place (row_of rows.now place) }
 {
-    if place == 0 {
-        return refuse(16);
-    }
-    let at = place - 1;
-    let row = show_24(rows[at], &rows[..0], StateId(0));
-    Reading {
-        number: 0,
-        row: row,
-    }
+    let row = row_at(rows, place)?;
+    Ok(show_plain(&row))
 }
 
 // The chart's row is there from the first scxml on.
-fn read_chart(chart: &[[u32; 24]], number: u32) -> Reading
-    ensures { result ≡ chart_read chart.now number }
+fn read_chart(chart: &[[u32; 24]], number: u32) -> Result<[u32; WIDTH], Refusal>
+    ensures { reading_in result ≡ chart_read chart.now number }
 {
     let place = place_in(chart.len(), number);
     if place == 0 {
-        return refuse(16);
+        return Err(Refusal::NoRow);
     }
     if chart[0][ChartColumn::ROOT] == 0 {
-        return refuse(16);
+        return Err(Refusal::NoRow);
     }
-    at_24(chart, place)
+    at(chart, place)
 }
 
-fn read_transition(transitions: &[[u32; 8]], t: TransitionId) -> Reading
-    ensures { result ≡ read_at [] 0 (own_place transitions.now t.0) (row_of transitions.now (own_place transitions.now t.0)) }
+fn read_transition(transitions: &[[u32; 8]], t: TransitionId) -> Result<[u32; WIDTH], Refusal>
+    ensures { reading_in result ≡ read_at [] 0 (own_place transitions.now t.0) (row_of transitions.now (own_place transitions.now t.0)) }
 {
     if t.0 == 0 {
-        return refuse(16);
+        return Err(Refusal::NoRow);
     }
-    at_8(transitions, transition_place(transitions, t))
+    at(transitions, transition_place(transitions, t))
 }
 
-fn read_region(regions: &[[u32; 8]], g: RegionId) -> Reading
-    ensures { result ≡ read_at [] 0 (own_place regions.now g.0) (row_of regions.now (own_place regions.now g.0)) }
+fn read_region(regions: &[[u32; 8]], g: RegionId) -> Result<[u32; WIDTH], Refusal>
+    ensures { reading_in result ≡ read_at [] 0 (own_place regions.now g.0) (row_of regions.now (own_place regions.now g.0)) }
 {
     if g.0 == 0 {
-        return refuse(16);
+        return Err(Refusal::NoRow);
     }
-    at_8(regions, region_place(regions, g))
+    at(regions, region_place(regions, g))
 }
 
-// Entries and invokes keep a state, and show its name.
-fn entry_at(entries: &[[u32; 48]], states: &[[u32; 24]], place: usize) -> Reading
+fn entry_at(
+    entries: &[[u32; 48]],
+    states: &[[u32; 24]],
+    place: usize,
+) -> Result<[u32; WIDTH], Refusal>
     requires { place ≤ length entries.now }
-    ensures { result ≡ read_at states.now (num (row_of entries.now place) 2) place (row_of entries.now place) }
+    ensures { reading_in result ≡ read_at states.now (num (row_of entries.now place) 2) place (row_of entries.now place) }
 {
-    if place == 0 {
-        return refuse(16);
-    }
-    let at = place - 1;
-    let row = show_48(
-        entries[at],
-        states,
-        StateId(entries[at][EntryColumn::STATE]),
-    );
-    Reading {
-        number: 0,
-        row: row,
-    }
+    let row = row_at(entries, place)?;
+    Ok(show_named(&row, states, StateId(row[EntryColumn::STATE])))
 }
 
-fn invoke_at(invokes: &[[u32; 24]], states: &[[u32; 24]], place: usize) -> Reading
+fn invoke_at(
+    invokes: &[[u32; 24]],
+    states: &[[u32; 24]],
+    place: usize,
+) -> Result<[u32; WIDTH], Refusal>
     requires { place ≤ length invokes.now }
-    ensures { result ≡ read_at states.now (num (row_of invokes.now place) 0) place (row_of invokes.now place) }
+    ensures { reading_in result ≡ read_at states.now (num (row_of invokes.now place) 0) place (row_of invokes.now place) }
 {
-    if place == 0 {
-        return refuse(16);
-    }
-    let at = place - 1;
-    let row = show_24(
-        invokes[at],
-        states,
-        StateId(invokes[at][InvokeColumn::STATE]),
-    );
-    Reading {
-        number: 0,
-        row: row,
-    }
+    let row = row_at(invokes, place)?;
+    Ok(show_named(&row, states, StateId(row[InvokeColumn::STATE])))
 }
 
 // A parameter of a donedata that another replaced has left the chart.
 fn has_left(row: [u32; 8], states: &[[u32; 24]], number: u32) -> bool
     ensures { result ≡ (eqb (num row 0) 3 && ltb number (num (row_of states.now (num row 1)) 8)) }
 {
-    (row[ParameterColumn::KIND] == OwnerKind::DONEDATA)
+    (row[ParameterColumn::KIND] == OwnerKind::Donedata as u32)
         & (number
             < state_cell(
                 states,
@@ -217,125 +184,60 @@ fn has_left(row: [u32; 8], states: &[[u32; 24]], number: u32) -> bool
             ))
 }
 
-fn read_parameter(parameters: &[[u32; 8]], states: &[[u32; 24]], number: u32) -> Reading
-    ensures { result ≡ parameter_read parameters.now states.now number }
+fn read_parameter(
+    parameters: &[[u32; 8]],
+    states: &[[u32; 24]],
+    number: u32,
+) -> Result<[u32; WIDTH], Refusal>
+    ensures { reading_in result ≡ parameter_read parameters.now states.now number }
 {
     let place = place_in(parameters.len(), number);
     if place == 0 {
-        return refuse(16);
+        return Err(Refusal::NoRow);
     }
-    let at = place - 1;
-    if has_left(parameters[at], states, number) {
-        return refuse(16);
+    if has_left(parameters[place - 1], states, number) {
+        return Err(Refusal::NoRow);
     }
-    at_8(parameters, place)
+    at(parameters, place)
 }
 
-// Question 16, of slices that are in use as a whole.
-fn read(
-    chart: &[[u32; 24]],
-    states: &[[u32; 24]],
-    transitions: &[[u32; 8]],
-    regions: &[[u32; 8]],
-    entries: &[[u32; 48]],
-    invokes: &[[u32; 24]],
-    datums: &[[u32; 8]],
-    parameters: &[[u32; 8]],
-    members: &[[u32; 8]],
-    kind: u32,
-    number: u32,
-) -> Reading
-    ensures { Clean chart.now states.now transitions.now regions.now entries.now invokes.now datums.now parameters.now members.now kind number result }
+// Question 16, of tables that are in use as a whole.
+fn read(used: Tables<'_>, kind: RowKind, number: u32) -> Result<[u32; WIDTH], Refusal>
+    ensures { Clean used.entry.chart.now used.entry.states.now used.entry.transitions.now used.entry.regions.now used.entry.entries.now used.entry.invokes.now used.entry.datums.now used.entry.parameters.now used.entry.members.now (kind_of kind) number (reading_in result) }
 {
-    if kind == CHART {
-        return read_chart(chart, number);
+    match kind {
+        RowKind::Chart => read_chart(used.chart, number),
+        RowKind::State => at(used.states, place_in(used.states.len(), number)),
+        RowKind::Transition => read_transition(used.transitions, TransitionId(number)),
+        RowKind::Region => read_region(used.regions, RegionId(number)),
+        RowKind::Entry => entry_at(
+            used.entries,
+            used.states,
+            place_in(used.entries.len(), number),
+        ),
+        RowKind::Invoke => invoke_at(
+            used.invokes,
+            used.states,
+            place_in(used.invokes.len(), number),
+        ),
+        RowKind::Datum => at(used.datums, place_in(used.datums.len(), number)),
+        RowKind::Parameter => read_parameter(used.parameters, used.states, number),
+        RowKind::Member => at(used.members, place_in(used.members.len(), number)),
     }
-    if kind == STATE {
-        return at_24(states, place_in(states.len(), number));
-    }
-    if kind == TRANSITION {
-        return read_transition(transitions, TransitionId(number));
-    }
-    if kind == REGION {
-        return read_region(regions, RegionId(number));
-    }
-    if kind == ENTRY {
-        return entry_at(entries, states, place_in(entries.len(), number));
-    }
-    if kind == INVOKE {
-        return invoke_at(invokes, states, place_in(invokes.len(), number));
-    }
-    if kind == DATUM {
-        return at_8(datums, place_in(datums.len(), number));
-    }
-    if kind == PARAMETER {
-        return read_parameter(parameters, states, number);
-    }
-    if kind == MEMBER {
-        return at_8(members, place_in(members.len(), number));
-    }
-    refuse(16)
 }
 
-/// A row by kind and number: the number is 0, or the first no of questions 1, 2 and 16, and then the row is zeros.
+/// A row by kind and number, or the first no of questions 1, 2 and 16.
 pub fn read_row(
-    chart: &[[u32; 24]],
-    states: &[[u32; 24]],
-    transitions: &[[u32; 8]],
-    regions: &[[u32; 8]],
-    entries: &[[u32; 48]],
-    invokes: &[[u32; 24]],
-    datums: &[[u32; 8]],
-    parameters: &[[u32; 8]],
-    members: &[[u32; 8]],
-    opened: &[[u32; 8]],
-    open_names: &[[u8; 64]],
-    open_regions: &[[u32; 8]],
-    text: &[u8],
+    tables: Tables<'_>,
     p: Position,
     kind: u32,
     number: u32,
-) -> Reading
-    ensures { result ≡ reading_of (R.call limits01 (lent (tables chart.now states.now transitions.now regions.now entries.now invokes.now datums.now parameters.now members.now opened.now open_names.now open_regions.now) text.now) p (R.reading kind number)) }
+) -> Result<[u32; WIDTH], Refusal>
+    ensures { reading_in result ≡ reading_of (R.call limits01 (seen_of tables.entry) p (R.reading kind number)) }
 {
-    let first = questions::asked(
-        chart,
-        states,
-        transitions,
-        regions,
-        entries,
-        invokes,
-        datums,
-        parameters,
-        members,
-        opened,
-        open_names,
-        open_regions,
-        text,
-        p,
-    );
-    if first != 0 {
-        return refuse(first);
-    }
-    read(
-        first_24(chart, 1),
-        first_24(states, p.states),
-        first_8(transitions, p.transitions),
-        first_8(regions, p.regions),
-        first_48(entries, p.entries),
-        first_24(invokes, p.invokes),
-        first_8(datums, p.datums),
-        first_8(parameters, p.parameters),
-        first_8(members, p.members),
-        kind,
-        number,
-    )
-}
-
-fn byte(x: u32) -> u8
-    ensures { result ≡ x % 256 }
-{
-    (x % 256) as u8
+    asked(tables, p)?;
+    let kind = RowKind::try_from(kind)?;
+    read(tables.in_use(p), kind, number)
 }
 
 // A row's bytes at the start of a buffer.
@@ -343,62 +245,36 @@ fn put_row(row: [u32; WIDTH], out: &mut [u8])
     requires { row_length ≤ length out.old }
     ensures { out.new ≡ row_bytes row ++ drop row_length out.old }
 {
-    let mut c = 0;
-    while c < WIDTH {
-        let v = row[c];
+    for (c, v) in row.iter().enumerate() {
         let at = c * 4;
-        out[at] = byte(v);
-        out[at + 1] = byte(v / 256);
-        out[at + 2] = byte(v / 65536);
-        out[at + 3] = byte(v / 16777216);
-        c += 1;
+        out[at] = (*v % 256) as u8;
+        out[at + 1] = (*v / 256 % 256) as u8;
+        out[at + 2] = (*v / 65536 % 256) as u8;
+        out[at + 3] = (*v / 16777216 % 256) as u8;
     }
 }
 
 /// The same for C: the row as 200 bytes, lowest byte first, zeros where it is refused; 1, and nothing written, where the buffer is too short for them.
 pub fn read_row_bytes(
-    chart: &[[u32; 24]],
-    states: &[[u32; 24]],
-    transitions: &[[u32; 8]],
-    regions: &[[u32; 8]],
-    entries: &[[u32; 48]],
-    invokes: &[[u32; 24]],
-    datums: &[[u32; 8]],
-    parameters: &[[u32; 8]],
-    members: &[[u32; 8]],
-    opened: &[[u32; 8]],
-    open_names: &[[u8; 64]],
-    open_regions: &[[u32; 8]],
-    text: &[u8],
+    tables: Tables<'_>,
     p: Position,
     kind: u32,
     number: u32,
     out: &mut [u8],
 ) -> u32
-    ensures { out_of result out.new ≡ row_out (R.call limits01 (lent (tables chart.now states.now transitions.now regions.now entries.now invokes.now datums.now parameters.now members.now opened.now open_names.now open_regions.now) text.now) p (R.reading kind number)) out.old }
+    ensures { out_of result out.new ≡ row_out (R.call limits01 (seen_of tables.entry) p (R.reading kind number)) out.old }
 {
     if out.len() < BYTES {
         return 1;
     }
-    let r = read_row(
-        chart,
-        states,
-        transitions,
-        regions,
-        entries,
-        invokes,
-        datums,
-        parameters,
-        members,
-        opened,
-        open_names,
-        open_regions,
-        text,
-        p,
-        kind,
-        number,
-    );
-    let row = r.row;
-    put_row(row, out);
-    r.number
+    match read_row(tables, p, kind, number) {
+        Ok(row) => {
+            put_row(row, out);
+            0
+        }
+        Err(no) => {
+            put_row([0u32; WIDTH], out);
+            no.number()
+        }
+    }
 }

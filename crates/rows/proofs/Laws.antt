@@ -2,23 +2,18 @@
 use mathlib.Core.Path.{◌≡◌, refl, sym, ap, ◌∙◌}
 use mathlib.Core.List.{List, []}
 use Prim.Native.Nat.{ℕ, zero, suc, ◌+◌, ◌-◌, ◌≤◌, ◌<◌}
-use native.Mathlib.Numerals.{add-one}
-use native.Mathlib.Nat.{add-zero}
 use native.Mathlib.Omega.{arith}
-use lib.ListN.{length, get_or, take, drop, drop_of_length-le, length-drop, get_or-eq_default}
-use lib.Seq.{drop-cons, take_all, take-nil}
-use borrow.Author.Tests.{eq-eqb, ne_eqb}
+use lib.ListN.{length, get_or, set, take, drop, length-drop, get_or-eq_default}
+use lib.Seq.{take_all}
+use Rattle.std.proofs.lemmas.Iterator.Adapters.{position_from-zero}
+use Rattle.std.specs.List.{position_from}
+use Rattle.std.proofs.lemmas.List.{drop_min}
+use Rattle.std.proofs.Common.{Bool, true, false, cond, min, ◌∷◌, Option, None, Some, MatchOption, slice_get, position, ◌==◌}
+use Rattle.rows.specs.Place.{row_at, altered}
 use Rattle.definition.specs.Text.{bytes_at}
-use Rattle.definition.specs.Rows.{Table, num, row_of, text_from}
+use Rattle.definition.specs.Rows.{Row, Table, num, row_of, text_from}
+use Rattle.definition.specs.Change.{alter_row}
 use Rattle.definition.specs.Actions.{place_of_number}
-
--- ---- the rows in use
-
-pub cut {ℓ} : {A : Type ℓ} (t : List A) {k n : ℕ} → k ≡ n → take k t ≡ take n t
-cut t e = rw e
-
-pub uncut {ℓ} : {A : Type ℓ} (t : List A) {k n : ℕ} → k ≡ n → length t < k → t ≡ take n t
-uncut t {k} {n} e h = sym (take_all n t (omega arith))
 
 -- ---- a row by its number, from 1
 
@@ -27,71 +22,100 @@ unfolding row_of
 there t zero f = let z : ⊥ = f refl in absurd z
 there t (suc j) f = let z : suc j - 1 ≡ j = omega arith in rw z
 
-pub past : (t : Table) (k : ℕ) → (k ≡ 0 → ⊥) → length t ≤ k - 1 → row_of t k ≡ []
-past t k f h = there t k f ∙ get_or-eq_default t [] h
+pub row_some : (t : Table) (n : ℕ) (r : Row) → row_at t n ≡ Some r → row_of t n ≡ r
+unfolding row_of
+row_some t zero r e = cc
+row_some t (suc i) r e = go t i e
+  where
+    go : (t : Table) (i : ℕ) → slice_get t i ≡ Some r → get_or t i [] ≡ r
+    go [] i e = cc
+    go (x ∷ t) zero e = cc
+    go (x ∷ t) (suc i) e = go t i e
+
+pub row_none : (t : Table) (n : ℕ) → row_at t n ≡ None → row_of t n ≡ []
+unfolding row_of
+row_none t zero e = refl
+row_none t (suc i) e = go t i e
+  where
+    go : (t : Table) (i : ℕ) → slice_get t i ≡ None → get_or t i [] ≡ []
+    go [] i e = let z : length {A = Row} [] ≤ i = omega arith in get_or-eq_default [] [] z
+    go (x ∷ t) zero e = cc
+    go (x ∷ t) (suc i) e = go t i e
+
+-- ---- a row changed
+
+pub altered_none : {A : Type 0} (n : ℕ) (f : A → A) (t : List A) → n ≡ 0 → altered n f t ≡ t
+unfolding altered
+altered_none zero f t e = refl
+altered_none (suc i) f t e = absurd (omega arith)
+
+pub altered_past : {A : Type 0} (n : ℕ) (f : A → A) (t : List A) → length t ≤ n - 1 → altered n f t ≡ t
+unfolding altered
+altered_past zero f t h = refl
+altered_past (suc i) f [] h = refl
+altered_past (suc zero) f (x ∷ t) h = absurd (omega arith)
+altered_past (suc (suc i)) f (x ∷ t) h = ap (λ z. x ∷ z) (altered_past (suc i) f t (omega arith))
+
+pub altered_at : {A : Type 0} (n : ℕ) (f : A → A) (t : List A) (x y : A) → (n ≡ 0 → ⊥) → n - 1 < length t → x ≡ get_or t (n - 1) x → y ≡ f x → altered n f t ≡ set t (n - 1) y
+unfolding altered
+altered_at {A} zero f t x y p h e g = absurd (p refl)
+altered_at {A} (suc i) f t x y p h e g = let z : suc i - 1 ≡ i = omega arith in rw z (go i t (omega arith) (e ∙ ap (λ (k : ℕ). get_or t k x) z))
+  where
+    go : (i : ℕ) (t : List A) → i < length t → x ≡ get_or t i x → altered (suc i) f t ≡ set t i y
+    go i [] h e = absurd (omega arith)
+    go zero (r ∷ t) h e = ap (λ z. z ∷ t) (ap f (sym e) ∙ sym g)
+    go (suc i) (r ∷ t) h e = ap (λ z. r ∷ z) (go i t (omega arith) e)
+
+-- The same in the definition's words.
+pub altered_row : (n : ℕ) (f : Row → Row) (t : Table) → altered n f t ≡ alter_row n f t
+unfolding altered alter_row
+altered_row zero f t = refl
+altered_row (suc i) f [] = refl
+altered_row (suc zero) f (x ∷ t) = refl
+altered_row (suc (suc i)) f (x ∷ t) = ap (λ z. x ∷ z) (altered_row (suc i) f t)
 
 -- ---- the place of a number
 
-abbrev after : ℕ → ℕ → ℕ
-after i zero = 0
-after i (suc p) = suc (p + i)
+next : Bool → ℕ → ℕ
+next b p = elim b [ true ↦ 1 | false ↦ elim p [ zero ↦ 0 | suc q ↦ suc (suc q) ] ]
 
--- No row before i has it.
-pub Passed : Table → ℕ → ℕ → Type 0
-Passed t n i = (i ≤ length t) × (after i (place_of_number (drop i t) n) ≡ place_of_number t n)
+step : (b : Bool) (o : Option ℕ) (p i : ℕ) → MatchOption o (p ≡ 0) (λ k. (k + 1 ≡ i + 1 + p) × (0 < p)) → MatchOption (cond b (Some i) o) (next b p ≡ 0) (λ k. (k + 1 ≡ i + next b p) × (0 < next b p))
+unfolding next
+step true o p i h = (refl, omega arith)
+step false None zero i h = refl
+step false None (suc p) i h = absurd (omega arith)
+step false (Some k) zero i h = absurd (omega arith)
+step false (Some k) (suc p) i h = (omega arith, omega arith)
 
-abbrev bump : ℕ → ℕ
-bump p = elim p [ zero ↦ 0 | suc q ↦ suc (suc q) ]
+from : (t : Table) (n i : ℕ) → MatchOption (position_from (λ row. num row 0 == n) i t) (place_of_number t n ≡ 0) (λ k. (k + 1 ≡ i + place_of_number t n) × (0 < place_of_number t n))
+unfolding place_of_number next
+from [] n i = refl
+from (r ∷ t) n i = step (num r 0 == n) (position_from (λ row. num row 0 == n) (i + 1) t) (place_of_number t n) i (from t n (i + 1))
 
-after_bump : (i p : ℕ) → after (i + 1) p ≡ after i (bump p)
-after_bump i zero = refl
-after_bump i (suc p) = let z : p + (i + 1) ≡ suc p + i = omega arith in ap suc z
+pub place_some : (t : Table) (n i : ℕ) → position (λ row. num row 0 == n) t ≡ Some i → place_of_number t n ≡ i + 1
+place_some t n i e = go _ (from t n 0) (sym (position_from-zero {B = Row} _ t) ∙ e)
+  where
+    go : (o : Option ℕ) → MatchOption o (place_of_number t n ≡ 0) (λ k. (k + 1 ≡ 0 + place_of_number t n) × (0 < place_of_number t n)) → o ≡ Some i → place_of_number t n ≡ i + 1
+    go None h e = cc
+    go (Some k) h e = let z : k ≡ i = cc in omega (arith, h.0)
 
-module _ (t : Table) (n i : ℕ) where
-  pub place_start : Passed t n 0
-  unfolding Passed
-  place_start = (omega arith, go (place_of_number t n))
-    where
-      go : (p : ℕ) → after 0 p ≡ p
-      go zero = refl
-      go (suc p) = ap suc (add-zero p)
-
-  pub place_more : i < length t → (num (get_or t i []) 0 ≡ n → ⊥) → Passed t n i → Passed t n (i + 1)
-  unfolding Passed place_of_number
-  place_more h e w = (omega arith, after_bump i (place_of_number (drop (i + 1) t) n) ∙ ap (after i) (sym step) ∙ w.1)
-    where
-      step : place_of_number (drop i t) n ≡ bump (place_of_number (drop (i + 1) t) n)
-      step = rw (add-one, drop-cons t i [] h, ne_eqb (num (get_or t i []) 0) n e, place_of_number)
-
-  pub place_here : i < length t → num (get_or t i []) 0 ≡ n → Passed t n i → i + 1 ≡ place_of_number t n
-  unfolding Passed place_of_number
-  place_here h e w = let s : place_of_number (drop i t) n ≡ 1 = rw (drop-cons t i [] h, eq-eqb (num (get_or t i []) 0) n e, place_of_number) in let z : i + 1 ≡ after i 1 = omega arith in z ∙ sym (ap (after i) s) ∙ w.1
-
-  pub place_end : length t ≤ i → Passed t n i → 0 ≡ place_of_number t n
-  unfolding Passed place_of_number
-  place_end h w = let s : place_of_number (drop i t) n ≡ 0 = rw (drop_of_length-le t h) in sym (ap (after i) s) ∙ w.1
+pub place_none : (t : Table) (n : ℕ) → position (λ row. num row 0 == n) t ≡ None → place_of_number t n ≡ 0
+place_none t n e = go _ (from t n 0) (sym (position_from-zero {B = Row} _ t) ∙ e)
+  where
+    go : (o : Option ℕ) → MatchOption o (place_of_number t n ≡ 0) (λ k. (k + 1 ≡ 0 + place_of_number t n) × (0 < place_of_number t n)) → o ≡ None → place_of_number t n ≡ 0
+    go None h e = h
+    go (Some k) h e = cc
 
 -- ---- texts
 
-module _ (t : List ℕ) (at n : ℕ) where
-  pub from_none : at ≡ 0 → [] ≡ text_from t at n
-  unfolding text_from
-  from_none e = rw (e, text_from)
+pub from_none : (t : List ℕ) (at n : ℕ) → at ≡ 0 → text_from t at n ≡ []
+unfolding text_from
+from_none t zero n e = refl
+from_none t (suc i) n e = absurd (omega arith)
 
-  module _ (some : at ≡ 0 → ⊥) {from : ℕ} (f : from ≡ at - 1) where
-    pub from_is : text_from t at n ≡ take n (drop from t)
-    unfolding text_from bytes_at
-    from_is = go at some f
-      where
-        go : (a : ℕ) → (a ≡ 0 → ⊥) → from ≡ a - 1 → text_from t a n ≡ take n (drop from t)
-        go zero k e = let z : ⊥ = k refl in absurd z
-        go (suc i) k e = let z : from ≡ i = omega arith in rw z
-
-    pub from_past : length t ≤ from → [] ≡ text_from t at n
-    from_past h = rw (from_is, drop_of_length-le t h, take-nil n)
-
-    pub from_long : {m : ℕ} → m ≡ n → length t - from ≤ m → take (length t - from) (drop from t) ≡ text_from t at n
-    from_long e h = rw from_is (take_all (length t - from) (drop from t) (omega (arith, length-drop from t)) ∙ sym (take_all n (drop from t) (omega (arith, length-drop from t))))
-
-    pub from_part : {m : ℕ} → m ≡ n → take (from + m - from) (drop from t) ≡ text_from t at n
-    from_part {m} e = let z : from + m - from ≡ n = omega arith in rw (from_is, z)
+pub from_some : (t : List ℕ) (at n k : ℕ) → 0 < at → k ≡ min (at - 1) (length t) → text_from t at n ≡ take n (take (length t - k) (drop k t))
+unfolding text_from bytes_at
+from_some t zero n k h e = absurd (omega arith)
+from_some t (suc i) n k h e =
+    let z : k ≡ min i (length t) = omega arith in
+    ap (take n) (sym (drop_min i t) ∙ ap (λ (j : ℕ). drop j t) (sym z) ∙ sym (take_all (length t - k) (drop k t) (omega (arith, length-drop k t))))

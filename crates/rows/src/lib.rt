@@ -2,11 +2,14 @@
 
 #![tactic(auto)]
 
-ghost use Rattle.std.specs.Prelude.{◌≡◌, ◌<◌, ◌^◌, take};
+ghost use Rattle.std.specs.Prelude.{◌≡◌, ◌<◌, ◌^◌, take, set, None, Some, MatchOption, position, ◌==◌};
 ghost use Rattle.definition.specs.Rows.{row_of, num, text_from};
 ghost use Rattle.definition.specs.Actions.{place_of_number};
+ghost use Rattle.rows.specs.Place.{row_at, altered};
 
 use definition::{RegionId, StateId, TransitionId};
+
+pub mod lent;
 
 /// A number as a place.
 pub fn index(x: u32) -> usize
@@ -16,90 +19,78 @@ pub fn index(x: u32) -> usize
     x as usize
 }
 
-/// The rows in use of a table: the first n, as far as there are so many.
-pub fn first_8(rows: &[[u32; 8]], n: u32) -> &[[u32; 8]]
+/// The rows in use of a table, or the bytes of a text: the first n, as far as there are so many.
+pub fn first<T>(rows: &[T], n: u32) -> &[T]
     ensures { result.now ≡ take n rows.now }
 {
-    let k = index(n);
-    if k <= rows.len() {
-        return &rows[..k];
-    }
-    rows
+    leading(rows, n as usize)
 }
 
-pub fn first_24(rows: &[[u32; 24]], n: u32) -> &[[u32; 24]]
+/// The same, of a place.
+pub fn leading<T>(rows: &[T], n: usize) -> &[T]
     ensures { result.now ≡ take n rows.now }
 {
-    let k = index(n);
-    if k <= rows.len() {
-        return &rows[..k];
-    }
-    rows
+    &rows[..rows.len().min(n)]
 }
 
-pub fn first_48(rows: &[[u32; 48]], n: u32) -> &[[u32; 48]]
-    ensures { result.now ≡ take n rows.now }
+/// Past the end nothing is written.
+pub fn put<T: Copy>(rows: &mut [T], i: usize, row: T)
+    ensures { rows.new ≡ set rows.old i row }
 {
-    let k = index(n);
-    if k <= rows.len() {
-        return &rows[..k];
+    if i < rows.len() {
+        rows[i] = row;
     }
-    rows
 }
 
-pub fn first_names(names: &[[u8; 64]], n: u32) -> &[[u8; 64]]
-    ensures { result.now ≡ take n names.now }
+/// The row with a number, from 1, changed; of 0, and past the end, nothing is.
+pub fn alter<T: Copy, F: FnOnce(T) -> T>(rows: &mut [T], number: u32, change: F)
+    requires { F.IsAlwaysCallable change }
+    ensures { (f : T → T) → ((row after : T) → F.post change row after → after ≡ f row) → rows.new ≡ altered number f rows.old }
 {
-    let k = index(n);
-    if k <= names.len() {
-        return &names[..k];
+    if number == 0 {
+        return;
     }
-    names
+    let i = number as usize - 1;
+    if i < rows.len() {
+        rows[i] = change(rows[i]);
+    }
 }
 
-/// The first n bytes, as far as there are so many.
-pub fn leading(text: &[u8], n: usize) -> &[u8]
-    ensures { result.now ≡ take n text.now }
+/// The row with a number, from 1.
+pub fn row_of<T>(rows: &[T], number: u32) -> Option<&T>
+    ensures { MatchOption result (row_at rows.now number ≡ None) (λ row. row_at rows.now number ≡ Some row.now) }
 {
-    if n <= text.len() {
-        return &text[..n];
-    }
-    text
-}
-
-pub fn first_bytes(text: &[u8], n: u32) -> &[u8]
-    ensures { result.now ≡ take n text.now }
-{
-    leading(text, index(n))
+    rows.get((number as usize).checked_sub(1)?)
 }
 
 /// A cell of a state's row.
+#[tactic(auto, using(crate::proofs::Laws::row_some, crate::proofs::Laws::row_none))]
 pub fn state_cell(states: &[[u32; 24]], s: StateId, c: usize) -> u32
     requires { c < 24 }
     ensures { result ≡ num (row_of states.now s.0) c }
 {
-    if s.0 == 0 {
-        return 0;
+    match row_of(states, s.0) {
+        Some(row) => row[c],
+        None => 0,
     }
-    let at = index(s.0 - 1);
-    if at < states.len() {
-        return states[at][c];
-    }
-    0
 }
 
-// The place of the row with a number of its own, from 1; 0 where there is none.
+// The row with a number of its own.
+fn position_of(rows: &[[u32; 8]], number: u32) -> Option<usize>
+    ensures { result ≡ position (λ row. num row 0 == number) rows.now }
+{
+    rows.iter().position(|row| row[0] == number)
+}
+
+// Its place, from 1; 0 where there is none.
+#[tactic(auto, using(crate::proofs::Laws::place_some, crate::proofs::Laws::place_none))]
 fn place_of(rows: &[[u32; 8]], number: u32) -> usize
     ensures { result ≡ place_of_number rows.now number }
 {
-    let mut i = 0;
-    while i < rows.len() {
-        if rows[i][0] == number {
-            return i + 1;
-        }
-        i += 1;
+    match position_of(rows, number) {
+        Some(i) => i + 1,
+        None => 0,
     }
-    0
 }
 
 pub fn transition_place(transitions: &[[u32; 8]], t: TransitionId) -> usize
@@ -115,20 +106,12 @@ pub fn region_place(regions: &[[u32; 8]], g: RegionId) -> usize
 }
 
 /// A text by its cell, its place plus one and its length; what runs past the end is cut off.
+#[tactic(auto, using(crate::proofs::Laws::from_none, crate::proofs::Laws::from_some))]
 pub fn text_from(text: &[u8], at: u32, len: u32) -> &[u8]
     ensures { result.now ≡ text_from text.now at len }
 {
-    let n = index(len);
     if at == 0 {
-        return &text[..0];
+        return &[];
     }
-    let from = index(at - 1);
-    if text.len() <= from {
-        return &text[..0];
-    }
-    if text.len() - from <= n {
-        return &text[from..];
-    }
-    let end = from + n;
-    &text[from..end]
+    first(&text[(at as usize - 1).min(text.len())..], len)
 }

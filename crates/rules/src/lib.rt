@@ -4,171 +4,81 @@
 
 ghost use Rattle.std.specs.Prelude.{◌≡◌};
 ghost use Rattle.definition.specs.Rows.{transition_columns, region_columns, datum_columns, parameter_columns, member_columns, opened_columns, open_region_columns, chart_columns, state_columns, invoke_columns, entry_columns};
-ghost use Rattle.columns.specs.Sees.{Rising, RowTest, RowsTest, columns8, columns24};
+ghost use Rattle.columns.specs.Sees.{RowTest};
+ghost use Rattle.rules.specs.Each.{Each};
 
-use columns::{
-    Known, content_keeps, else_keeps, inside, is_state, member_owner_keeps, member_value_keeps,
-    parameter_owner_keeps, region_or_zero, state_or_zero, texts, transition_or_zero, up_to_next,
-    zeros,
-};
+use columns::numbered::Known;
+use columns::{inside, texts, up_to_next, zeros};
 use definition::{RegionId, StateId, TransitionId};
 
-/// The tables of eight columns that `rows_keep_8` knows by number; any other number is the open regions'.
-pub const TRANSITIONS: u32 = 0;
-
-pub const REGIONS: u32 = 1;
-
-pub const DATA: u32 = 2;
-
-pub const PARAMETERS: u32 = 3;
-
-pub const MEMBERS: u32 = 4;
-
-pub const OPENED: u32 = 5;
-
-pub const OPEN_REGIONS: u32 = 6;
-
-/// Those of 24 that `rows_keep_24` knows; any other number is the invokes'.
-pub const CHART: u32 = 0;
-
-pub const STATES: u32 = 1;
-
-pub const INVOKES: u32 = 2;
-
-fn transition_keeps(row: [u32; 8], k: Known, transitions: &[[u32; 8]], regions: &[[u32; 8]]) -> bool
-    requires { Rising regions.now }
-    ensures { RowTest k transitions.now regions.now transition_columns row result }
+pub fn transition_keeps(row: [u32; 8], k: &Known) -> bool
+    ensures { RowTest k.now transition_columns row result }
 {
     ((1 <= row[0]) & (row[0] <= k.ids))
         & ((row[1] <= k.docs)
-            & (is_state(StateId(row[2]), k.states)
+            & (k.is_state(StateId(row[2]))
                 & ((row[3] <= 1)
                     & ((row[4] <= 1)
-                        & (region_or_zero(regions, RegionId(row[5]))
-                            & inside(k.used, row[6], row[7]))))))
+                        & (k.region_or_zero(RegionId(row[5])) & inside(k.used, row[6], row[7]))))))
 }
 
-fn region_keeps(row: [u32; 8], k: Known, transitions: &[[u32; 8]], regions: &[[u32; 8]]) -> bool
-    ensures { RowTest k transitions.now regions.now region_columns row result }
+pub fn region_keeps(row: [u32; 8], k: &Known) -> bool
+    ensures { RowTest k.now region_columns row result }
 {
     ((1 <= row[0]) & (row[0] <= k.ids)) & zeros(&row, 1, 7)
 }
 
-fn datum_keeps(row: [u32; 8], k: Known, transitions: &[[u32; 8]], regions: &[[u32; 8]]) -> bool
-    ensures { RowTest k transitions.now regions.now datum_columns row result }
+pub fn datum_keeps(row: [u32; 8], k: &Known) -> bool
+    ensures { RowTest k.now datum_columns row result }
 {
-    state_or_zero(StateId(row[0]), k.states) & (texts(&row, 1, 3, k.used) & zeros(&row, 7, 1))
+    k.state_or_zero(StateId(row[0])) & (texts(&row, 1, 3, k.used) & zeros(&row, 7, 1))
 }
 
-fn parameter_keeps(row: [u32; 8], k: Known, transitions: &[[u32; 8]], regions: &[[u32; 8]]) -> bool
-    ensures { RowTest k transitions.now regions.now parameter_columns row result }
+pub fn parameter_keeps(row: [u32; 8], k: &Known) -> bool
+    ensures { RowTest k.now parameter_columns row result }
 {
     ((1 <= row[0]) & (row[0] <= 3))
-        & (parameter_owner_keeps(row[0], row[1], k, transitions, regions)
-            & texts(&row, 2, 3, k.used))
+        & (k.parameter_owner_keeps(row[0], row[1]) & texts(&row, 2, 3, k.used))
 }
 
-fn member_keeps(row: [u32; 8], k: Known, transitions: &[[u32; 8]], regions: &[[u32; 8]]) -> bool
-    requires { Rising transitions.now × Rising regions.now }
-    ensures { RowTest k transitions.now regions.now member_columns row result }
+pub fn member_keeps(row: [u32; 8], k: &Known) -> bool
+    ensures { RowTest k.now member_columns row result }
 {
     ((1 <= row[0]) & (row[0] <= 9))
-        & (member_owner_keeps(row[0], row[1], k, transitions, regions)
-            & (member_value_keeps(row[0], row[2], k, transitions, regions)
+        & (k.member_owner_keeps(row[0], row[1])
+            & (k.member_value_keeps(row[0], row[2])
                 & (inside(k.used, row[3], row[4]) & zeros(&row, 5, 3))))
 }
 
-fn opened_keeps(row: [u32; 8], k: Known, transitions: &[[u32; 8]], regions: &[[u32; 8]]) -> bool
-    requires { Rising transitions.now }
-    ensures { RowTest k transitions.now regions.now opened_columns row result }
+pub fn opened_keeps(row: [u32; 8], k: &Known) -> bool
+    ensures { RowTest k.now opened_columns row result }
 {
     (row[0] <= 27)
-        & (state_or_zero(StateId(row[1]), k.states)
-            & (transition_or_zero(transitions, TransitionId(row[2])) & zeros(&row, 4, 4)))
+        & (k.state_or_zero(StateId(row[1]))
+            & (k.transition_or_zero(TransitionId(row[2])) & zeros(&row, 4, 4)))
 }
 
-fn open_region_keeps(
-    row: [u32; 8],
-    k: Known,
-    transitions: &[[u32; 8]],
-    regions: &[[u32; 8]],
-) -> bool
-    requires { Rising regions.now }
-    ensures { RowTest k transitions.now regions.now open_region_columns row result }
+pub fn open_region_keeps(row: [u32; 8], k: &Known) -> bool
+    ensures { RowTest k.now open_region_columns row result }
 {
-    region_or_zero(regions, RegionId(row[0])) & zeros(&row, 2, 6)
+    k.region_or_zero(RegionId(row[0])) & zeros(&row, 2, 6)
 }
 
-fn row_keeps_8(
-    which: u32,
-    row: [u32; 8],
-    k: Known,
-    transitions: &[[u32; 8]],
-    regions: &[[u32; 8]],
-) -> bool
-    requires { Rising transitions.now × Rising regions.now }
-    ensures { RowTest k transitions.now regions.now (columns8 which) row result }
+pub fn chart_keeps(row: [u32; 24], k: &Known) -> bool
+    ensures { RowTest k.now chart_columns row result }
 {
-    if which == TRANSITIONS {
-        return transition_keeps(row, k, transitions, regions);
-    }
-    if which == REGIONS {
-        return region_keeps(row, k, transitions, regions);
-    }
-    if which == DATA {
-        return datum_keeps(row, k, transitions, regions);
-    }
-    if which == PARAMETERS {
-        return parameter_keeps(row, k, transitions, regions);
-    }
-    if which == MEMBERS {
-        return member_keeps(row, k, transitions, regions);
-    }
-    if which == OPENED {
-        return opened_keeps(row, k, transitions, regions);
-    }
-    open_region_keeps(row, k, transitions, regions)
-}
-
-/// Every row of a table of eight columns.
-pub fn rows_keep_8(
-    which: u32,
-    table: &[[u32; 8]],
-    k: Known,
-    transitions: &[[u32; 8]],
-    regions: &[[u32; 8]],
-) -> bool
-    requires { Rising transitions.now × Rising regions.now }
-    ensures { RowsTest k transitions.now regions.now (columns8 which) table.now result }
-{
-    let mut i = 0;
-    while i < table.len() {
-        let row = table[i];
-        if !row_keeps_8(which, row, k, transitions, regions) {
-            return false;
-        }
-        i += 1;
-    }
-    true
-}
-
-fn chart_keeps(row: [u32; 24], k: Known, transitions: &[[u32; 8]], regions: &[[u32; 8]]) -> bool
-    requires { Rising regions.now }
-    ensures { RowTest k transitions.now regions.now chart_columns row result }
-{
-    state_or_zero(StateId(row[0]), k.states)
-        & (region_or_zero(regions, RegionId(row[1]))
+    k.state_or_zero(StateId(row[0]))
+        & (k.region_or_zero(RegionId(row[1]))
             & ((row[2] <= 1) & (texts(&row, 3, 3, k.used) & zeros(&row, 9, 15))))
 }
 
-fn state_keeps(row: [u32; 24], k: Known, transitions: &[[u32; 8]], regions: &[[u32; 8]]) -> bool
-    requires { Rising transitions.now }
-    ensures { RowTest k transitions.now regions.now state_columns row result }
+pub fn state_keeps(row: [u32; 24], k: &Known) -> bool
+    ensures { RowTest k.now state_columns row result }
 {
     inside(k.used, row[0], row[1])
         & ((row[2] <= k.docs)
-            & (transition_or_zero(transitions, TransitionId(row[3]))
-                & (state_or_zero(StateId(row[4]), k.states)
+            & (k.transition_or_zero(TransitionId(row[3]))
+                & (k.state_or_zero(StateId(row[4]))
                     & ((row[5] <= 1)
                         & ((row[6] <= 1)
                             & ((row[7] <= 2)
@@ -177,96 +87,35 @@ fn state_keeps(row: [u32; 24], k: Known, transitions: &[[u32; 8]], regions: &[[u
                                         & (texts(&row, 10, 2, k.used) & zeros(&row, 14, 10))))))))))
 }
 
-fn invoke_keeps(row: [u32; 24], k: Known, transitions: &[[u32; 8]], regions: &[[u32; 8]]) -> bool
-    requires { Rising regions.now }
-    ensures { RowTest k transitions.now regions.now invoke_columns row result }
+pub fn invoke_keeps(row: [u32; 24], k: &Known) -> bool
+    ensures { RowTest k.now invoke_columns row result }
 {
-    state_or_zero(StateId(row[0]), k.states)
+    k.state_or_zero(StateId(row[0]))
         & ((row[1] <= 1)
-            & (region_or_zero(regions, RegionId(row[2]))
+            & (k.region_or_zero(RegionId(row[2]))
                 & ((row[3] <= 1) & (texts(&row, 4, 8, k.used) & zeros(&row, 20, 4)))))
 }
 
-fn row_keeps_24(
-    which: u32,
-    row: [u32; 24],
-    k: Known,
-    transitions: &[[u32; 8]],
-    regions: &[[u32; 8]],
-) -> bool
-    requires { Rising transitions.now × Rising regions.now }
-    ensures { RowTest k transitions.now regions.now (columns24 which) row result }
+pub fn entry_keeps(row: [u32; 48], k: &Known) -> bool
+    ensures { RowTest k.now entry_columns row result }
 {
-    if which == CHART {
-        return chart_keeps(row, k, transitions, regions);
-    }
-    if which == STATES {
-        return state_keeps(row, k, transitions, regions);
-    }
-    invoke_keeps(row, k, transitions, regions)
-}
-
-pub fn rows_keep_24(
-    which: u32,
-    table: &[[u32; 24]],
-    k: Known,
-    transitions: &[[u32; 8]],
-    regions: &[[u32; 8]],
-) -> bool
-    requires { Rising transitions.now × Rising regions.now }
-    ensures { RowsTest k transitions.now regions.now (columns24 which) table.now result }
-{
-    let mut i = 0;
-    while i < table.len() {
-        let row = table[i];
-        if !row_keeps_24(which, row, k, transitions, regions) {
-            return false;
-        }
-        i += 1;
-    }
-    true
-}
-
-fn entry_keeps(row: [u32; 48], k: Known, transitions: &[[u32; 8]], regions: &[[u32; 8]]) -> bool
-    requires { Rising regions.now }
-    ensures { RowTest k transitions.now regions.now entry_columns row result }
-{
-    region_or_zero(regions, RegionId(row[0]))
+    k.region_or_zero(RegionId(row[0]))
         & (((1 <= row[1]) & (row[1] <= 8))
-            & (state_or_zero(StateId(row[2]), k.states)
-                & (content_keeps(
-                    row[1],
-                    RegionId(row[3]),
-                    RegionId(row[0]),
-                    k,
-                    transitions,
-                    regions,
-                ) & (else_keeps(
-                    row[1],
-                    RegionId(row[4]),
-                    RegionId(row[0]),
-                    k,
-                    transitions,
-                    regions,
-                ) & ((row[5] <= 1) & (texts(&row, 6, 19, k.used) & zeros(&row, 44, 4)))))))
+            & (k.state_or_zero(StateId(row[2]))
+                & (k.content_keeps(row[1], RegionId(row[3]), RegionId(row[0]))
+                    & (k.else_keeps(row[1], RegionId(row[4]), RegionId(row[0]))
+                        & ((row[5] <= 1) & (texts(&row, 6, 19, k.used) & zeros(&row, 44, 4)))))))
 }
 
-pub fn rows_keep_48(
-    table: &[[u32; 48]],
-    k: Known,
-    transitions: &[[u32; 8]],
-    regions: &[[u32; 8]],
-) -> bool
-    requires { Rising regions.now }
-    ensures { RowsTest k transitions.now regions.now entry_columns table.now result }
+/// Whether each row of a table keeps its columns' classes; `keeps` says it of a row and of what rows are held against.
+pub fn rows_keep<T: Copy, K: Copy, F: Fn(T, K) -> bool>(table: &[T], k: K, keeps: F) -> bool
+    requires { F.IsAlwaysCallable keeps }
+    ensures { Each (λ x b. F.post keeps x k b) table.now result }
 {
-    let mut i = 0;
-    while i < table.len() {
-        let row = table[i];
-        if !entry_keeps(row, k, transitions, regions) {
+    for row in table {
+        if !keeps(*row, k) {
             return false;
         }
-        i += 1;
     }
     true
 }

@@ -1,15 +1,18 @@
 -- The next row that has a number in a column: rows that don't are passed over.
-use Prim.Native.Nat.{ℕ, zero, suc, ◌+◌, ◌<◌, ◌≤◌}
+use Prim.Native.Nat.{ℕ, zero, suc, ◌+◌, ◌-◌, ◌<◌, ◌≤◌}
 use mathlib.Core.Path.{◌≡◌, refl, sym, ap, ◌∙◌}
-use mathlib.Core.Bool.{Bool, true, false, ◌&&◌, ◌||◌, not}
+use mathlib.Core.Bool.{Bool, true, false, ◌&&◌, ◌||◌}
 use mathlib.Core.List.{[], ◌∷◌}
-use lib.ListN.{length, get_or, drop}
-use lib.Seq.{drop-cons, drop-drop}
+use lib.ListN.{length, get_or, drop, length-drop}
+use lib.Seq.{drop-cons, drop-drop, take_all}
 use lib.Dec.{eqb, ltb}
-use borrow.Author.Tests.{eq-eqb, ne_eqb, eqb-true, eqb-false, lt-ltb, le-ltb, ltb-false, not-true, not-false}
+use borrow.Author.Tests.{eq-eqb, ne_eqb, eqb-true, eqb-false, ltb-true, ltb-false}
 use native.Mathlib.Omega.{arith}
 use Rattle.definition.specs.Rows.{Row, Table, num, same_list}
 use Rattle.plan.specs.Seen.{first_child_or}
+use Rattle.std.proofs.Common.{◌==◌, cond, position, Some, None, take}
+use Rattle.std.specs.List.{list_any, position_or_len}
+use Rattle.std.proofs.lemmas.List.Recursion.{is_position_or_len}
 use Rattle.see.specs.Scans.{is_child_in, first_with}
 use Rattle.see.proofs.Scans.{by, no_row, first_here, first_later, child_cons}
 
@@ -69,25 +72,52 @@ module _ (c v : ℕ) where
         let z : drop (next i) (drop i t) ≡ drop r t = drop-drop (next i) i t ∙ ap (λ (x : ℕ). drop x t) (sym e) in
         ap (first_with c v) (sym z) ∙ with_behind (drop i t)
 
-  -- A block of n rows, of which none has it, or one does; j of them are passed.
-  module _ (t : Table) (i n : ℕ) where
-    pub block_begins : next t i i ≡ 0 + next t i (i + 0)
-    block_begins = let z : i + 0 ≡ i = omega arith in rw z (omega arith)
+  abbrev has_it : Row → Bool
+  has_it r = num r c == v
 
-    pub block_more : (j : ℕ) → i + j < length t → ¬ (num (get_or t (i + j) []) c ≡ v) → next t i i ≡ j + next t i (i + j) → next t i i ≡ j + 1 + next t i (i + (j + 1))
-    block_more j h e f = let z : i + (j + 1) ≡ i + j + 1 = omega arith in rw z (omega (arith, f, with_later t (i + j) h e))
+  first_is : (t : Table) → first_with c v t ≡ position_or_len has_it t
+  unfolding first_with
+  first_is = is_position_or_len (first_with c v) has_it refl (λ r rs. step (has_it r) (first_with c v rs))
+    where
+      step : (b : Bool) (n : ℕ) → ◌≡◌ {A = ℕ} (elim b [ true ↦ 0 | false ↦ suc n ]) (cond b 0 (1 + n))
+      step true n = refl
+      step false n = omega arith
 
-    pub block_with : (j : ℕ) → j < n → i + j < length t → num (get_or t (i + j) []) c ≡ v → next t i i ≡ j + next t i (i + j) → false ≡ not (ltb (next t i i) n)
-    block_with j h k q e = sym (ap not (lt-ltb (next t i i) n (omega (arith, h, e, with_here t (i + j) k q))))
+  told : (n m j : ℕ) → cond (ltb n m) (Some n) None ≡ Some j → (n ≡ j) × (n < m)
+  told n m j e = by (ltb n m) (λ f. (let z : Some n ≡ Some j = rw f at e in cc, ltb-true n m f)) (λ f. let z : None ≡ Some j = rw f at e in cc)
 
-    pub block_without : (j : ℕ) → n ≤ j → next t i i ≡ j + next t i (i + j) → true ≡ not (ltb (next t i i) n)
-    block_without j h e = sym (ap not (le-ltb (next t i i) n (omega (arith, h, e))))
+  untold : (n m : ℕ) → cond (ltb n m) (Some n) None ≡ None → m ≤ n
+  untold n m e = by (ltb n m) (λ f. let z : Some n ≡ None = rw f at e in cc) (λ f. ltb-false n m f)
 
-    pub block_past : (s : ℕ) (b : Bool) → b ≡ not (ltb (next t i i) n) → not b ≡ false → i + next t i i ≡ s → i + n + next t i (i + n) ≡ s
-    block_past s b e f h =
-        let m : n ≤ next t i i = ltb-false _ _ (not-true _ (sym e ∙ not-false _ f)) in
-        let z : next t i (i + n) ≡ first_with c v (drop n (drop i t)) = ap (first_with c v) (sym (drop-drop n i t)) in
-        omega (arith, h, z, with_on n (drop i t) m)
+  rest : (t : Table) (i : ℕ) → take (length t - i) (drop i t) ≡ drop i t
+  rest t i = take_all (length t - i) (drop i t) (omega (arith, length-drop i t))
+
+  pub found_some : (t : Table) (i j : ℕ) → Some j ≡ position has_it (take (length t - i) (drop i t)) → i ≤ length t → (i + j < length t) × (next t i i ≡ j)
+  found_some t i j e h =
+      let z = told (position_or_len has_it (drop i t)) (length (drop i t)) j (sym (e ∙ ap (position has_it) (rest t i))) in
+      (omega (arith, z.0, z.1, length-drop i t), first_is (drop i t) ∙ z.0)
+
+  pub found_none : (t : Table) (i : ℕ) → None ≡ position has_it (take (length t - i) (drop i t)) → i ≤ length t → i + next t i i ≡ length t
+  found_none t i e h =
+      let z = untold (position_or_len has_it (drop i t)) (length (drop i t)) (sym (e ∙ ap (position has_it) (rest t i))) in
+      omega (arith, z, length-drop i t, first_is (drop i t), with_le (drop i t))
+
+  -- A block of n rows without is passed over.
+  without : (n : ℕ) (t : Table) → n ≤ length t → list_any has_it (take n t) ≡ false → n ≤ first_with c v t
+  without zero t h e = omega arith
+  without (suc n) [] h e = absurd (omega arith)
+  without (suc n) (r ∷ rs) h e = go (λ f. without n rs (omega arith) f) (has_it r) refl e
+    where
+      go : (list_any has_it (take n rs) ≡ false → n ≤ first_with c v rs) → (b : Bool) → has_it r ≡ b → (b || list_any has_it (take n rs)) ≡ false → suc n ≤ first_with c v (r ∷ rs)
+      go later true f e = let z : ◌≡◌ {A = ℕ} 0 1 = cc in absurd (omega arith)
+      go later false f e = omega (arith, miss r rs f, later e)
+
+  pub block_past : (t : Table) (i n : ℕ) → i + n ≤ length t → false ≡ list_any has_it (take (i + n - i) (drop i t)) → i + n + next t i (i + n) ≡ i + next t i i
+  block_past t i n h e =
+      let y : i + n - i ≡ n = omega arith in
+      let z : next t i (i + n) ≡ first_with c v (drop n (drop i t)) = ap (first_with c v) (sym (drop-drop n i t)) in
+      let w : list_any has_it (take n (drop i t)) ≡ false = ap (λ (k : ℕ). list_any has_it (take k (drop i t))) (sym y) ∙ sym e in
+      omega (arith, z, with_on n (drop i t) (without n (drop i t) (omega (arith, length-drop i t)) w))
 
 -- ---- children
 
@@ -140,6 +170,19 @@ module _ (p s : ℕ) (t : Table) (i : ℕ) where
   pub child_no : length t ≤ i → false ≡ is_child_in p s (drop i t)
   unfolding is_child_in
   child_no h = sym (ap (is_child_in p s) (no_row t i h))
+
+module _ (r : Row) (p : ℕ) where
+  pub same_yes : num r 0 ≡ 1 → num r 1 ≡ p → same_list 1 p r ≡ true
+  unfolding same_list
+  same_yes a b = ap (λ (x : Bool). x && eqb (num r 1) p) (eq-eqb _ _ a) ∙ eq-eqb _ _ b
+
+  pub same_not : num r 0 ≡ 1 → ¬ (num r 1 ≡ p) → same_list 1 p r ≡ false
+  unfolding same_list
+  same_not a b = ap (λ (x : Bool). x && eqb (num r 1) p) (eq-eqb _ _ a) ∙ ne_eqb _ _ b
+
+  pub same_other : ¬ (num r 0 ≡ 1) → same_list 1 p r ≡ false
+  unfolding same_list
+  same_other a = ap (λ (x : Bool). x && eqb (num r 1) p) (ne_eqb _ _ a)
 
 module _ (t : Table) (d s i : ℕ) (h : i < length t) where
   pub first_this : num (get_or t i []) 0 ≡ 1 → num (get_or t i []) 1 ≡ s → num (get_or t i []) 2 ≡ first_child_or d s (drop i t)

@@ -1,10 +1,11 @@
 -- What the scans of a table cite.
 use Prim.Native.Nat.{ℕ, zero, suc, ◌+◌, ◌-◌, ◌<◌, ◌≤◌}
-use mathlib.Core.Path.{◌≡◌, refl, sym, ap, ◌∙◌, subst}
+use mathlib.Core.Path.{◌≡◌, refl, sym, ap, ap₂, ◌∙◌}
 use mathlib.Core.Bool.{Bool, true, false, ◌&&◌, ◌||◌}
 use mathlib.Core.List.{[], ◌∷◌, ◌++◌}
-use lib.ListN.{length, get_or, take, drop}
-use lib.Seq.{take-suc, drop-cons, length-take-le}
+use lib.ListN.{length, get_or, drop, length-append, get_or-append}
+use lib.Seq.{drop-cons, get_or-append_seam}
+use Rattle.std.proofs.Common.{◌≢◌, Option, Some, None, MatchOption}
 use lib.Dec.{eqb}
 use borrow.Author.Tests.{eq-eqb, ne_eqb}
 use native.Mathlib.Omega.{arith}
@@ -12,46 +13,37 @@ use Rattle.definition.specs.Elements.{among}
 use Rattle.definition.specs.Rows.{Row, Table, num, row_of, same_list, listed, values_of}
 use Rattle.definition.specs.Actions.{last_with}
 pub use Rattle.definition.proofs.Base.{test as by}
+use Rattle.plan.specs.declared.Closing.{Closing}
+use Rattle.plan.specs.declared.Walked.{Walked}
 use Rattle.plan.specs.Ids.{region_id}
 use Rattle.plan.specs.Seen.{closed_at, first_child_or}
-use Rattle.see.specs.Scans.{walk_over, is_child_in}
+use Rattle.see.specs.Scans.{walk_over, is_child_in, IsLast}
 
 -- ---- the last row with a number
 
-last_cons : (c v i a : ℕ) (x : Row) (xs : Table) → (eqb (num x c) v ≡ true → last_with c v i a (x ∷ xs) ≡ last_with c v (suc i) (suc i) xs) × (eqb (num x c) v ≡ false → last_with c v i a (x ∷ xs) ≡ last_with c v (suc i) a xs)
-unfolding last_with
-last_cons c v i a x xs = ((λ e. rw (e, last_with)), (λ e. rw (e, last_with)))
+module _ (c v : ℕ) where
+  abbrev Misses : Table → Type 0
+  Misses t = (k : ℕ) → k < length t → num (get_or t k []) c ≢ v
 
-last_hit : (c v i a : ℕ) (xs : Table) (r : Row) → eqb (num r c) v ≡ true → last_with c v i a (xs ++ r ∷ []) ≡ suc (i + length xs)
-unfolding last_with
-last_hit c v i a [] r e = (last_cons c v i a r []).0 e ∙ omega arith
-last_hit c v i a (x ∷ xs) r e =
-    by (eqb (num x c) v) (λ f. (last_cons c v i a x (xs ++ r ∷ [])).0 f ∙ omega (arith, last_hit c v (suc i) (suc i) xs r e)) (λ f.
-    (last_cons c v i a x (xs ++ r ∷ [])).1 f ∙ omega (arith, last_hit c v (suc i) a xs r e))
+  later : (x : Row) (t : Table) → Misses (x ∷ t) → Misses t
+  later x t m k h = m (suc k) (omega arith)
 
-last_miss : (c v i a : ℕ) (xs : Table) (r : Row) → eqb (num r c) v ≡ false → last_with c v i a (xs ++ r ∷ []) ≡ last_with c v i a xs
-unfolding last_with
-last_miss c v i a [] r e = (last_cons c v i a r []).1 e
-last_miss c v i a (x ∷ xs) r e =
-    by (eqb (num x c) v) (λ f. (last_cons c v i a x (xs ++ r ∷ [])).0 f ∙ last_miss c v (suc i) (suc i) xs r e ∙ sym ((last_cons c v i a x xs).0 f)) (λ f.
-    (last_cons c v i a x (xs ++ r ∷ [])).1 f ∙ last_miss c v (suc i) a xs r e ∙ sym ((last_cons c v i a x xs).1 f))
+  none_after : (t : Table) (i a : ℕ) → Misses t → a ≡ last_with c v i a t
+  unfolding last_with
+  none_after [] i a m = refl
+  none_after (x ∷ t) i a m = rw (ne_eqb (num x c) v (m 0 (omega arith)), last_with) (none_after t (suc i) a (later x t m))
 
-pub at_last : (c v : ℕ) (t : Table) (k j : ℕ) → k ≡ suc j → j < length t → num (get_or t j []) c ≡ v → k ≡ last_with c v 0 0 (take k t)
-at_last c v t k j e h f =
-    let z : last_with c v 0 0 (take (suc j) t) ≡ suc (0 + length (take j t)) = ap (last_with c v 0 0) (take-suc t j [] h) ∙ last_hit c v 0 0 (take j t) (get_or t j []) (eq-eqb _ _ f) in
-    let y : length (take j t) ≡ j = length-take-le j t (omega arith) in
-    let x : suc j ≡ last_with c v 0 0 (take (suc j) t) = omega (arith, z, y) in
-    subst (λ (m : ℕ). m ≡ last_with c v 0 0 (take m t)) (sym e) x
+  last_at : (t : Table) (i a j : ℕ) → j < length t → num (get_or t j []) c ≡ v → ((k : ℕ) → j < k → k < length t → num (get_or t k []) c ≢ v) → i + j + 1 ≡ last_with c v i a t
+  unfolding last_with
+  last_at [] i a j h e m = absurd (omega arith)
+  last_at (x ∷ t) i a zero h e m = rw (eq-eqb (num x c) v e, last_with) (omega (arith, none_after t (suc i) (suc i) (λ k l. m (suc k) (omega arith) (omega arith))))
+  last_at (x ∷ t) i a (suc j) h e m =
+      let f : (a : ℕ) → suc i + j + 1 ≡ last_with c v (suc i) a t = λ a. last_at t (suc i) a j (omega arith) e (λ k l n. m (suc k) (omega arith) (omega arith)) in
+      by (eqb (num x c) v) (λ q. rw (q, last_with) (omega (arith, f (suc i)))) (λ q. rw (q, last_with) (omega (arith, f a)))
 
-pub before_last : (c v : ℕ) (t : Table) (k j : ℕ) → k ≡ suc j → j < length t → ¬ (num (get_or t j []) c ≡ v) → last_with c v 0 0 (take j t) ≡ last_with c v 0 0 (take k t)
-before_last c v t k j e h f =
-    subst (λ (m : ℕ). last_with c v 0 0 (take j t) ≡ last_with c v 0 0 (take m t)) (sym e) (
-    sym (ap (last_with c v 0 0) (take-suc t j [] h) ∙ last_miss c v 0 0 (take j t) (get_or t j []) (ne_eqb _ _ f)))
-
-pub none_last : (c v : ℕ) (t : Table) (k : ℕ) → k ≡ 0 → 0 ≡ last_with c v 0 0 (take k t)
-unfolding last_with
-none_last c v t zero e = refl
-none_last c v t (suc k) e = absurd (omega arith)
+pub last_told : (c v : ℕ) (t : Table) (o : Option ℕ) → IsLast c v t o → MatchOption o (0 ≡ last_with c v 0 0 t) (λ i. i + 1 ≡ last_with c v 0 0 t)
+last_told c v t None m = none_after c v t 0 0 m
+last_told c v t (Some i) m = omega (arith, last_at c v t 0 0 i m.0 m.1 m.2)
 
 -- ---- forward
 
@@ -99,67 +91,68 @@ close_all g t k zero h e = absurd (h refl)
 close_all g t zero (suc c) h e = refl
 close_all g t (suc k) (suc c) h e = absurd (omega arith)
 
-pub close_here : (g : ℕ) (t : Table) (k j c : ℕ) → ¬ (c ≡ 0) → k ≡ suc j → num (get_or t j []) 1 ≡ g → record { met = 1; current = region_id (num (get_or t j []) 0); kept = j } ≡ closed_at g t k c
+-- What the j-th region, with row x, closes; w is what is closed of those around it.
+abbrev met_at : ℕ → ℕ → Row → Closing → Closing
+met_at g j x w = elim (eqb (num x 1) g) [ true ↦ record { met = 1; current = region_id (num x 0); kept = j } | false ↦ w ]
+
+-- Only the first j regions are looked at.
+close_front : (g : ℕ) (t u : Table) (j c : ℕ) → ((k : ℕ) → k < j → get_or t k [] ≡ get_or u k []) → closed_at g t j c ≡ closed_at g u j c
 unfolding closed_at
-close_here g t k j zero h e f = absurd (h refl)
-close_here g t k j (suc c) h e f = subst (λ (m : ℕ). record { met = 1; current = region_id (num (get_or t j []) 0); kept = j } ≡ closed_at g t m (suc c)) (sym e) (rw (eq-eqb (num (get_or t j []) 1) g f, closed_at))
+close_front g t u zero c e = refl
+close_front g t u (suc j) zero e = refl
+close_front g t u (suc j) (suc c) e =
+    ap (λ (x : Row). met_at g j x (closed_at g t j (num x 0))) (e j (omega arith)) ∙ ap (met_at g j (get_or u j [])) (close_front g t u j (num (get_or u j []) 0) (λ k h. e k (omega arith)))
 
-pub close_outer : (g : ℕ) (t : Table) (k j c : ℕ) → ¬ (c ≡ 0) → k ≡ suc j → ¬ (num (get_or t j []) 1 ≡ g) → closed_at g t j (num (get_or t j []) 0) ≡ closed_at g t k c
-unfolding closed_at
-close_outer g t k j zero h e f = absurd (h refl)
-close_outer g t k j (suc c) h e f = subst (λ (m : ℕ). closed_at g t j (num (get_or t j []) 0) ≡ closed_at g t m (suc c)) (sym e) (rw (ne_eqb (num (get_or t j []) 1) g f, closed_at))
+module _ (g : ℕ) (t u : Table) (r : Row) (c : ℕ) (h : ¬ (c ≡ 0)) (e : t ≡ u ++ r ∷ []) where
+  close_step : closed_at g t (length t) c ≡ met_at g (length u) r (closed_at g u (length u) (num r 0))
+  unfolding closed_at
+  close_step = go c h
+    where
+      n : length t ≡ suc (length u)
+      n = ap length e ∙ omega (arith, length-append u (r ∷ []))
 
--- ---- the else walk, with e the last entry of the region r
+      last : get_or t (length u) [] ≡ r
+      last = ap (λ (x : Table). get_or x (length u) []) e ∙ get_or-append_seam u r [] []
 
-walk_by_lem : (t : Table) (g r e : ℕ) → last_with 0 r 0 0 t ≡ e → walk_over (suc g) t r ≡ elim (eqb (num (row_of t e) 1) 1) [
-  | false ↦ record { met = 0; at = 0 }
-  | true ↦ elim (eqb (num (row_of t e) 4) 0) [ true ↦ record { met = 1; at = e } | false ↦ walk_over g t (num (row_of t e) 4) ]
-]
-unfolding walk_over
-walk_by_lem t g r e h =
-    ap (λ (x : ℕ). elim (eqb (num (row_of t x) 1) 1) [
-      | false ↦ record { met = 0; at = 0 }
-      | true ↦ elim (eqb (num (row_of t x) 4) 0) [ true ↦ record { met = 1; at = x } | false ↦ walk_over g t (num (row_of t x) 4) ]
-    ]) h
+      front : (k : ℕ) → k < length u → get_or t k [] ≡ get_or u k []
+      front k l = ap (λ (x : Table). get_or x k []) e ∙ get_or-append u (r ∷ []) [] k l
 
-if_not : {A : Type 0} (b : Bool) (x y : A) → b ≡ false → elim b [ false ↦ x | true ↦ y ] ≡ x
-if_not false x y e = refl
-if_not true x y e = let z : ◌≡◌ {A = ℕ} 0 1 = cc in absurd (omega arith)
+      go : (c : ℕ) → ¬ (c ≡ 0) → closed_at g t (length t) c ≡ met_at g (length u) r (closed_at g u (length u) (num r 0))
+      go zero h = absurd (h refl)
+      go (suc c) h =
+          ap (λ (k : ℕ). closed_at g t k (suc c)) n ∙ ap (λ (x : Row). met_at g (length u) x (closed_at g t (length u) (num x 0))) last ∙ ap (met_at g (length u) r) (close_front g t u (length u) (num r 0) front)
 
-if_so : {A : Type 0} (b : Bool) (x y : A) → b ≡ true → elim b [ false ↦ x | true ↦ y ] ≡ y
-if_so true x y e = refl
-if_so false x y e = let z : ◌≡◌ {A = ℕ} 0 1 = cc in absurd (omega arith)
+  pub close_here : num r 1 ≡ g → record { met = 1; current = region_id (num r 0); kept = length u } ≡ closed_at g t (length t) c
+  close_here f = sym (close_step ∙ rw (eq-eqb _ _ f, met_at))
 
--- j is the place of the entry e.
-row_in : (u : Table) (e j : ℕ) → e ≡ suc j → row_of u e ≡ get_or u j []
-unfolding row_of
-row_in u zero j h = absurd (omega arith)
-row_in u (suc e) j h = let z : e ≡ j = omega arith in ap (λ (x : ℕ). get_or u x []) z
+  pub close_outer : ¬ (num r 1 ≡ g) → closed_at g u (length u) (num r 0) ≡ closed_at g t (length t) c
+  close_outer f = sym (close_step ∙ rw (ne_eqb _ _ f, met_at))
 
-pub walk_empty : (u : Table) (f r e : ℕ) → 0 < f → e ≡ last_with 0 r 0 0 u → e ≡ 0 → record { met = 0; at = 0 } ≡ walk_over f u r
-unfolding row_of
-walk_empty u zero r e s h z = absurd (omega arith)
-walk_empty u (suc f) r e s h z = sym (walk_by_lem u f r 0 (sym h ∙ z))
+-- ---- the else walk, with e the last entry of the region r, and x its row
 
-pub walk_other : (u : Table) (f r e j : ℕ) → 0 < f → e ≡ last_with 0 r 0 0 u → e ≡ suc j → ¬ (num (get_or u j []) 1 ≡ 1) → record { met = 0; at = 0 } ≡ walk_over f u r
-walk_other u zero r e j s h z k = absurd (omega arith)
-walk_other u (suc f) r e j s h z k =
-    sym (walk_by_lem u f r e (sym h) ∙ if_not _ _ _ (ap (λ (x : Row). eqb (num x 1) 1) (row_in u e j z) ∙ ne_eqb _ _ k))
+module _ (t : Table) (f r e : ℕ) (x : Row) (s : 0 < f) (h : e ≡ last_with 0 r 0 0 t) (z : row_of t e ≡ x) where
+  abbrev walked : ℕ → ℕ → Bool → Bool → ℕ → Walked
+  walked a g p q n = elim p [ false ↦ record { met = 0; at = 0 } | true ↦ elim q [ true ↦ record { met = 1; at = a } | false ↦ walk_over g t n ] ]
 
-pub walk_met : (u : Table) (f r e j : ℕ) → 0 < f → e ≡ last_with 0 r 0 0 u → e ≡ suc j → num (get_or u j []) 1 ≡ 1 → num (get_or u j []) 4 ≡ 0 → record { met = 1; at = e } ≡ walk_over f u r
-walk_met u zero r e j s h z k o = absurd (omega arith)
-walk_met u (suc f) r e j s h z k o =
-    sym (walk_by_lem u f r e (sym h) ∙ (if_so _ _ _ (ap (λ (x : Row). eqb (num x 1) 1) (row_in u e j z) ∙ eq-eqb _ _ k)
-    ∙ if_so _ _ _ (ap (λ (x : Row). eqb (num x 4) 0) (row_in u e j z) ∙ eq-eqb _ _ o)))
+  abbrev whole : ℕ → Row → ℕ → Walked
+  whole a y g = walked a g (eqb (num y 1) 1) (eqb (num y 4) 0) (num y 4)
 
-pub walk_on : (u : Table) (f r e j : ℕ) → 0 < f → e ≡ last_with 0 r 0 0 u → e ≡ suc j → num (get_or u j []) 1 ≡ 1 → ¬ (num (get_or u j []) 4 ≡ 0) → walk_over (f - 1) u (num (get_or u j []) 4) ≡ walk_over f u r
-walk_on u zero r e j s h z k o = absurd (omega arith)
-walk_on u (suc f) r e j s h z k o =
-    let y : suc f - 1 ≡ f = omega arith in
-    let x : num (get_or u j []) 4 ≡ num (row_of u e) 4 = ap (λ (w : Row). num w 4) (sym (row_in u e j z)) in
-    ap (λ (w : ℕ). walk_over w u (num (get_or u j []) 4)) y ∙ (ap (walk_over f u) x
-    ∙ sym (walk_by_lem u f r e (sym h) ∙ (if_so _ _ _ (ap (λ (w : Row). eqb (num w 1) 1) (row_in u e j z) ∙ eq-eqb _ _ k)
-    ∙ if_not _ _ _ (ap (λ (w : Row). eqb (num w 4) 0) (row_in u e j z) ∙ ne_eqb _ _ o))))
+  walk_step : walk_over f t r ≡ whole e x (f - 1)
+  unfolding walk_over
+  walk_step = go f s refl
+    where
+      go : (g : ℕ) → 0 < g → g ≡ f → walk_over g t r ≡ whole e x (f - 1)
+      go zero s y = absurd (omega arith)
+      go (suc g) s y = let w : g ≡ f - 1 = omega arith in ap (λ (a : ℕ). whole a (row_of t a) g) (sym h) ∙ ap (λ (y : Row). whole e y g) z ∙ ap (whole e x) w
+
+  pub walk_other : ¬ (num x 1 ≡ 1) → record { met = 0; at = 0 } ≡ walk_over f t r
+  walk_other k = sym (walk_step ∙ ap (λ (p : Bool). walked e (f - 1) p (eqb (num x 4) 0) (num x 4)) (ne_eqb _ _ k))
+
+  pub walk_met : num x 1 ≡ 1 → num x 4 ≡ 0 → record { met = 1; at = e } ≡ walk_over f t r
+  walk_met k o = sym (walk_step ∙ ap₂ (λ (p q : Bool). walked e (f - 1) p q (num x 4)) (eq-eqb _ _ k) (eq-eqb _ _ o))
+
+  pub walk_on : num x 1 ≡ 1 → ¬ (num x 4 ≡ 0) → walk_over (f - 1) t (num x 4) ≡ walk_over f t r
+  walk_on k o = sym (walk_step ∙ ap₂ (λ (p q : Bool). walked e (f - 1) p q (num x 4)) (eq-eqb _ _ k) (ne_eqb _ _ o))
 
 pub walk_out : (t : Table) (f r : ℕ) → f ≡ 0 → record { met = 0; at = 0 } ≡ walk_over f t r
 unfolding walk_over

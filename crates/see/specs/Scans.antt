@@ -1,5 +1,5 @@
 -- Reads of tables, of the table alone.
-use Rattle.std.specs.Prelude.{ℕ, zero, suc, Bool, true, false, [], ◌∷◌, eqb}
+use Rattle.std.specs.Prelude.{◌≡◌, ◌≢◌, ℕ, zero, suc, ◌+◌, ◌<◌, Bool, true, false, [], ◌∷◌, eqb, length, get_or, drop, Option, MatchOption}
 use Rattle.definition.specs.Elements.{among}
 use Rattle.definition.specs.Rows.{Table, list, entry, entry_kind, num, row_of, listed, values_of}
 use Rattle.definition.specs.Actions.{last_with}
@@ -24,3 +24,12 @@ is_child_in p s t = among s (values_of (listed list.children p t))
 unfoldable pub first_with : ℕ → ℕ → Table → ℕ
 first_with c v [] = 0
 first_with c v (r ∷ rs) = elim (eqb (num r c) v) [ true ↦ 0 | false ↦ suc (first_with c v rs) ]
+
+-- The last row that has v in column c.
+abbrev pub IsLast : ℕ → ℕ → Table → Option ℕ → Type 0
+IsLast c v t o =
+    MatchOption o ((k : ℕ) → k < length t → num (get_or t k []) c ≢ v) (λ i. (i < length t) × (num (get_or t i []) c ≡ v) × ((k : ℕ) → i < k → k < length t → num (get_or t k []) c ≢ v))
+
+-- The first row from one on that has v in column c.
+abbrev pub IsNext : ℕ → ℕ → ℕ → Table → Option ℕ → Type 0
+IsNext c v from t o = MatchOption o (from + first_with c v (drop from t) ≡ length t) (λ i. (i < length t) × (i ≡ from + first_with c v (drop from t)))

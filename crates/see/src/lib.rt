@@ -2,13 +2,14 @@
 
 #![tactic(auto)]
 
-ghost use Rattle.std.specs.Prelude.{◌≡◌, [], ◌&&◌, not, ◌+◌, ◌<◌, ◌≤◌, ◌^◌, length, get_or, drop, eqb, ltb};
+ghost use Rattle.std.specs.Prelude.{◌≡◌, [], ◌&&◌, ◌||◌, not, ◌<◌, ◌≤◌, ◌^◌, length, get_or, eqb, nat_eq, position, ◌==◌};
+ghost use Rattle.std.specs.List.{list_any};
 ghost use Rattle.definition.specs.Rows.{num, row_of};
 ghost use Rattle.definition.specs.Actions.{last_with, place_of_number};
 ghost use Rattle.plan.specs.Ids.{state_id, transition_id};
 ghost use Rattle.plan.specs.Seen.{closes, closed_at, first_child_or};
-ghost use Rattle.see.specs.Scans.{walk_over, is_child_in, first_with};
-ghost use Rattle.see.specs.Masked.{is_start, number_if, bool_if, walked_if, closing_if, does_close, is_else, is_part, is_invoked};
+ghost use Rattle.see.specs.Scans.{walk_over, is_child_in, IsLast, IsNext};
+ghost use Rattle.see.specs.Masked.{is_start, is_both, is_childish, number_if, bool_if, walked_if, closing_if, does_close, is_else, is_part, is_invoked};
 ghost use Rattle.see.specs.View.{walk_after, default_for, family_of, inside_of, seen_by, Short};
 
 use definition::cells::{
@@ -18,154 +19,151 @@ use definition::codes::{EntryKind, Kind, ListKind, Tag};
 use definition::{Position, RegionId, StateId, TransitionId};
 use opens::Open;
 use plan::{Closing, Seen, Walked};
-use rows::{index, state_cell, transition_place};
+use rows::{row_of, state_cell, transition_place};
+
+const NOT_CLOSED: Closing = Closing {
+    met: 0,
+    current: RegionId(0),
+    kept: 0,
+};
+
+const NOT_MET: Walked = Walked { met: 0, at: 0 };
 
 /// The chart's root; 0 where there is no row.
 fn root_of(chart: &[[u32; 24]]) -> StateId
     ensures { result ≡ state_id (num (get_or chart.now 0 []) 0) }
 {
-    if chart.len() == 0 {
-        return StateId(0);
+    match chart.first() {
+        Some(row) => StateId(row[ChartColumn::ROOT]),
+        None => StateId(0),
     }
-    StateId(chart[0][ChartColumn::ROOT])
 }
 
 /// The record of the innermost open element.
+#[tactic(auto, using(crate::proofs::Cells::inside_none, crate::proofs::Cells::inside_some))]
 fn inside(opened: &[[u32; 8]]) -> Open
     ensures { result ≡ inside_of opened.now }
 {
-    if opened.len() == 0 {
-        return opens::outside();
+    match opened.last() {
+        Some(row) => opens::opened(
+            StateId(row[OpenColumn::STATE]),
+            TransitionId(row[OpenColumn::TRANSITION]),
+            row[OpenColumn::TAG],
+        ),
+        None => opens::outside(),
     }
-    let last = opened.len() - 1;
-    opens::opened(
-        StateId(opened[last][OpenColumn::STATE]),
-        TransitionId(opened[last][OpenColumn::TRANSITION]),
-        opened[last][OpenColumn::TAG],
-    )
 }
 
 /// What an entry is; 0 where there is no such row.
+#[tactic(auto, using(rows::proofs::Laws::row_some, rows::proofs::Laws::row_none))]
 fn entry_kind(entries: &[[u32; 48]], e: u32) -> u32
     ensures { result ≡ num (row_of entries.now e) 1 }
 {
-    if e == 0 {
-        return 0;
+    match row_of(entries, e) {
+        Some(row) => row[EntryColumn::KIND],
+        None => 0,
     }
-    let at = index(e - 1);
-    if at < entries.len() {
-        return entries[at][EntryColumn::KIND];
-    }
-    0
+}
+
+#[tactic(auto, unfolding(crate::specs::Masked::is_else))]
+fn is_else(tag: u32) -> bool
+    ensures { result ≡ is_else tag }
+{
+    matches!(tag, Tag::ELSE | Tag::ELSEIF)
 }
 
 /// else and elseif close their if; an element that ends closes its own region.
+#[tactic(auto, unfolding(plan::specs::Seen::closes, crate::specs::Masked::is_else))]
 fn closes(tag: u32) -> u32
     ensures { result ≡ closes tag }
 {
-    if (tag == Tag::ELSE) | (tag == Tag::ELSEIF) {
-        return Tag::IF;
-    }
-    tag
+    if is_else(tag) { Tag::IF } else { tag }
 }
 
-/// A region closed: k of the open regions are left, and one is current. It calls itself for the region around.
-fn close_region(tag: u32, open_regions: &[[u32; 8]], k: u32, current: RegionId) -> Closing
-    requires { k ≤ length open_regions.now }
-    ensures { result ≡ closed_at tag open_regions.now k current.0 }
+/// What the element closes, of these open regions. It calls itself for the region around.
+fn close_region(tag: u32, open_regions: &[[u32; 8]], current: RegionId) -> Closing
+    requires { length open_regions.now < 2 ^ 32 }
+    ensures { result ≡ closed_at tag open_regions.now (length open_regions.now) current.0 }
 {
     if current.0 == 0 {
-        return Closing {
-            met: 0,
-            current: RegionId(0),
-            kept: 0,
-        };
+        return NOT_CLOSED;
     }
-    if k == 0 {
+    let Some((row, around)) = open_regions.split_last() else {
         return Closing {
             met: 1,
             current: RegionId(0),
             kept: 0,
         };
-    }
-    let at = k - 1;
-    let row = index(at);
-    let outer = RegionId(open_regions[row][OpenRegionColumn::REGION]);
-    if open_regions[row][OpenRegionColumn::TAG] == tag {
+    };
+    let outer = RegionId(row[OpenRegionColumn::REGION]);
+    if row[OpenRegionColumn::TAG] == tag {
         return Closing {
             met: 1,
             current: outer,
-            kept: at,
+            kept: around.len() as u32,
         };
     }
-    close_region(tag, open_regions, at, outer)
+    close_region(tag, around, outer)
 }
 
 /// Whether an event closes a region.
+#[tactic(auto, unfolding(crate::specs::Masked::does_close, crate::specs::Masked::is_open, crate::specs::Masked::is_else, crate::specs::Masked::closes_own))]
 fn does_close(kind: u32, tag: u32) -> bool
     ensures { result ≡ does_close kind tag }
 {
-    let other = (tag == Tag::ELSE) | (tag == Tag::ELSEIF);
-    let own = (tag == Tag::FINALIZE)
-        | ((tag == Tag::TRANSITION)
-            | ((tag == Tag::ONENTRY)
-                | ((tag == Tag::ONEXIT) | ((tag == Tag::IF) | (tag == Tag::FOREACH)))));
-    other | (!(kind == Kind::OPEN) & own)
-}
-
-/// What the element closes, of all open regions.
-fn closing(tag: u32, open_regions: &[[u32; 8]], current: RegionId) -> Closing
-    requires { length open_regions.now < 2 ^ 32 }
-    ensures { result ≡ closed_at (closes tag) open_regions.now (length open_regions.now) current.0 }
-{
-    let open = open_regions.len() as u32;
-    close_region(closes(tag), open_regions, open, current)
+    // For the speed no `matches!`, as in `decide: ends`.
+    let own = tag == Tag::FINALIZE
+        || tag == Tag::TRANSITION
+        || tag == Tag::ONENTRY
+        || tag == Tag::ONEXIT
+        || tag == Tag::IF
+        || tag == Tag::FOREACH;
+    is_else(tag) || (kind != Kind::OPEN && own)
 }
 
 /// For else and elseif, and where an element with a region of its own ends: what it closes.
+#[tactic(auto, unfolding(crate::specs::Masked::closing_if))]
 fn closing_for(kind: u32, tag: u32, open_regions: &[[u32; 8]], current: RegionId) -> Closing
     requires { length open_regions.now < 2 ^ 32 }
     ensures { result ≡ closing_if (does_close kind tag) (closed_at (closes tag) open_regions.now (length open_regions.now) current.0) }
 {
     if does_close(kind, tag) {
-        return closing(tag, open_regions, current);
+        return close_region(closes(tag), open_regions, current);
     }
-    Closing {
-        met: 0,
-        current: RegionId(0),
-        kept: 0,
+    NOT_CLOSED
+}
+
+// The last row with v in a column. From the end: it is near.
+fn last_row<const N: usize>(rows: &[[u32; N]], c: usize, v: u32) -> Option<usize>
+    requires { c < N }
+    ensures { IsLast c v rows.now result }
+{
+    rows.iter().rposition(
+        |row| -> bool
+            requires { c < N }
+            ensures { result ≡ nat_eq (get_or row.now c 0) v }
+        { row[c] == v },
+    )
+}
+
+// Its number, from 1; 0 where there is none.
+#[tactic(auto, using(crate::proofs::Scans::last_told))]
+fn last_number<const N: usize>(rows: &[[u32; N]], c: usize, v: u32) -> u32
+    requires { (c < N) × (length rows.now < 2 ^ 32) }
+    ensures { result ≡ last_with c v 0 0 rows.now }
+{
+    match last_row(rows, c, v) {
+        Some(i) => i as u32 + 1,
+        None => 0,
     }
 }
 
-/// The last entry of a region, from 1; 0 where there is none. From the end: it is near.
+/// The last entry of a region, from 1; 0 where there is none.
 fn last_entry(entries: &[[u32; 48]], region: RegionId) -> u32
     requires { length entries.now < 2 ^ 32 }
-    ensures value { result ≡ last_with 0 region.0 0 0 entries.now }
-    ensures upper_bound { result ≤ length entries.now }
+    ensures { result ≡ last_with 0 region.0 0 0 entries.now }
 {
-    let mut k = entries.len();
-    while 0 < k {
-        if entries[k - 1][EntryColumn::REGION] == region.0 {
-            return k as u32;
-        }
-        k -= 1;
-    }
-    0
-}
-
-/// The last invoke of a state, likewise.
-fn last_invoke(invokes: &[[u32; 24]], state: StateId) -> u32
-    requires { length invokes.now < 2 ^ 32 }
-    ensures { result ≡ last_with 0 state.0 0 0 invokes.now }
-{
-    let mut k = invokes.len();
-    while 0 < k {
-        if invokes[k - 1][InvokeColumn::STATE] == state.0 {
-            return k as u32;
-        }
-        k -= 1;
-    }
-    0
+    last_number(entries, EntryColumn::REGION, region.0)
 }
 
 /// The else walk: from a region's last entry through else numbers to the first if without one, in at most so many steps.
@@ -173,87 +171,64 @@ fn else_walk(entries: &[[u32; 48]], steps: u32, region: RegionId) -> Walked
     requires { length entries.now < 2 ^ 32 }
     ensures { result ≡ walk_over steps entries.now region.0 }
 {
-    let mut left = steps;
-    let mut at = region.0;
-    while 0 < left {
-        let e = last_entry(entries, RegionId(at));
-        if e == 0 {
-            return Walked { met: 0, at: 0 };
+    let mut at = region;
+    for _step in 0..steps {
+        let e = last_entry(entries, at);
+        let Some(row) = row_of(entries, e) else {
+            return NOT_MET;
+        };
+        if row[EntryColumn::KIND] != EntryKind::IF {
+            return NOT_MET;
         }
-        let row = index(e - 1);
-        if entries[row][EntryColumn::KIND] != EntryKind::IF {
-            return Walked { met: 0, at: 0 };
-        }
-        let other = entries[row][EntryColumn::ELSE];
-        if other == 0 {
+        if row[EntryColumn::ELSE] == 0 {
             return Walked { met: 1, at: e };
         }
-        at = other;
-        left -= 1;
+        at = RegionId(row[EntryColumn::ELSE]);
     }
-    Walked { met: 0, at: 0 }
+    NOT_MET
 }
 
-// How many rows are looked at before the next test for the end: the compiler writes them out.
+// How many rows are looked at before the next test for the end: the compiler writes them out. Tried without blocks, as one chain over all rows: 1.7 times the time.
 const BLOCK: usize = 8;
 
-/// Whether no row of the block at `i` has v in a column.
-fn is_block_without(members: &[[u32; 8]], c: usize, v: u32, i: usize) -> bool
-    requires { (c < 8) × (i + BLOCK ≤ length members.now) }
-    ensures { result ≡ not (ltb (first_with c v (drop i members.now)) BLOCK) }
-{
-    let mut j = 0;
-    while j < BLOCK {
-        if members[i + j][c] == v {
-            return false;
-        }
-        j += 1;
-    }
-    true
-}
-
-/// The first row from `from` on that has v in a column; the number of rows where there is none.
-fn next_near(members: &[[u32; 8]], c: usize, v: u32, from: usize) -> usize
+/// The first row from `from` on that has v in a column.
+fn next_with(members: &[[u32; 8]], c: usize, v: u32, from: usize) -> Option<usize>
     requires { (c < 8) × (from ≤ length members.now) }
-    ensures value { result ≡ from + first_with c v (drop from members.now) }
-    ensures upper_bound { result ≤ length members.now }
+    ensures { IsNext c v from members.now result }
 {
     let mut i = from;
-    while i < members.len() {
-        if members[i][c] == v {
-            return i;
-        }
-        i += 1;
-    }
-    i
-}
-
-/// The same, for many rows.
-fn next_with(members: &[[u32; 8]], c: usize, v: u32, from: usize) -> usize
-    requires { (c < 8) × (from ≤ length members.now) }
-    ensures value { result ≡ from + first_with c v (drop from members.now) }
-    ensures upper_bound { result ≤ length members.now }
-{
-    let mut i = from;
-    while BLOCK <= members.len() - i {
-        if !is_block_without(members, c, v, i) {
-            return next_near(members, c, v, i);
-        }
+    // For speed whole blocks are passed over first.
+    while BLOCK <= members.len() - i && !has(&members[i..i + BLOCK], c, v) {
         i += BLOCK;
     }
-    next_near(members, c, v, i)
+    let j = position_of(&members[i..], c, v)?;
+    Some(i + j)
+}
+
+fn has(members: &[[u32; 8]], c: usize, v: u32) -> bool
+    requires { c < 8 }
+    ensures { result ≡ list_any (λ row. num row c == v) members.now }
+{
+    members.iter().any(|row| row[c] == v)
+}
+
+fn position_of(members: &[[u32; 8]], c: usize, v: u32) -> Option<usize>
+    requires { c < 8 }
+    ensures { result ≡ position (λ row. num row c == v) members.now }
+{
+    members.iter().position(|row| row[c] == v)
 }
 
 /// The first child of a state; d where it has none.
 fn first_child(members: &[[u32; 8]], d: u32, s: StateId) -> u32
     ensures { result ≡ first_child_or d s.0 members.now }
 {
-    let mut i = next_with(members, MemberColumn::OWNER, s.0, 0);
-    while i < members.len() {
+    let mut from = 0;
+    while let Some(i) = next_with(members, MemberColumn::OWNER, s.0, from) {
         if members[i][MemberColumn::LIST] == ListKind::CHILDREN {
             return members[i][MemberColumn::VALUE];
         }
-        i = next_with(members, MemberColumn::OWNER, s.0, i + 1);
+        from = i + 1;
     }
     d
 }
@@ -262,96 +237,109 @@ fn first_child(members: &[[u32; 8]], d: u32, s: StateId) -> u32
 fn is_child(members: &[[u32; 8]], p: StateId, s: StateId) -> bool
     ensures { result ≡ is_child_in p.0 s.0 members.now }
 {
-    let mut i = next_with(members, MemberColumn::VALUE, s.0, 0);
-    while i < members.len() {
-        if (members[i][MemberColumn::LIST] == ListKind::CHILDREN)
-            & (members[i][MemberColumn::OWNER] == p.0)
+    let mut from = 0;
+    while let Some(i) = next_with(members, MemberColumn::VALUE, s.0, from) {
+        if members[i][MemberColumn::LIST] == ListKind::CHILDREN
+            && members[i][MemberColumn::OWNER] == p.0
         {
             return true;
         }
-        i = next_with(members, MemberColumn::VALUE, s.0, i + 1);
+        from = i + 1;
     }
     false
 }
 
 /// For else and elseif: the walk from the region that is current after the if's is closed.
+#[tactic(auto, unfolding(crate::specs::Masked::walked_if, crate::specs::Masked::is_else, crate::specs::View::walk_after, crate::specs::View::walk_by, crate::specs::View::walk_at))]
 fn walk_for(tag: u32, entries: &[[u32; 48]], steps: u32, x: Closing) -> Walked
     requires { length entries.now < 2 ^ 32 }
     ensures { result ≡ walked_if (is_else tag) (walk_after x steps entries.now) }
 {
-    if (tag == Tag::ELSE) | (tag == Tag::ELSEIF) {
-        if x.met == 0 {
-            return Walked { met: 0, at: 0 };
-        }
-        if x.current.0 == 0 {
-            return Walked { met: 1, at: 0 };
-        }
-        return else_walk(entries, steps, x.current);
+    if !is_else(tag) || x.met == 0 {
+        return NOT_MET;
     }
-    Walked { met: 0, at: 0 }
+    if x.current.0 == 0 {
+        return Walked { met: 1, at: 0 };
+    }
+    else_walk(entries, steps, x.current)
 }
 
 /// For param and content: the send's entry.
+#[tactic(auto, unfolding(crate::specs::Masked::number_if, crate::specs::Masked::is_part))]
 fn entry_for(tag: u32, entries: &[[u32; 48]], region: RegionId) -> u32
     requires { length entries.now < 2 ^ 32 }
     ensures { result ≡ number_if (is_part tag) (last_with 0 region.0 0 0 entries.now) }
 {
-    if (tag == Tag::PARAM) | (tag == Tag::CONTENT) {
-        return last_entry(entries, region);
+    match tag {
+        Tag::PARAM | Tag::CONTENT => last_entry(entries, region),
+        _ => 0,
     }
-    0
 }
 
-/// For finalize, param and content: the invoke.
+/// For finalize, param and content: the invoke, the last of the state.
+#[tactic(auto, unfolding(crate::specs::Masked::number_if, crate::specs::Masked::is_invoked))]
 fn invoke_for(tag: u32, invokes: &[[u32; 24]], state: StateId) -> u32
     requires { length invokes.now < 2 ^ 32 }
     ensures { result ≡ number_if (is_invoked tag) (last_with 0 state.0 0 0 invokes.now) }
 {
-    if (tag == Tag::FINALIZE) | (tag == Tag::PARAM) | (tag == Tag::CONTENT) {
-        return last_invoke(invokes, state);
+    match tag {
+        Tag::FINALIZE | Tag::PARAM | Tag::CONTENT => {
+            last_number(invokes, InvokeColumn::STATE, state.0)
+        }
+        _ => 0,
     }
-    0
+}
+
+/// Whether an event ends this element.
+#[tactic(auto, unfolding(crate::specs::Masked::is_start))]
+fn does_end(kind: u32, tag: u32, element: u32) -> bool
+    ensures { result ≡ (not (is_start kind) && eqb tag element) }
+{
+    kind >= Kind::END && tag == element
+}
+
+/// Whether an event begins and ends the chart or a state.
+#[tactic(auto, unfolding(crate::specs::Masked::is_both))]
+fn is_whole(kind: u32, tag: u32) -> bool
+    ensures { result ≡ (is_both kind && (eqb tag 1 || eqb tag 2)) }
+{
+    matches!(kind, Kind::EMPTY | Kind::WHOLE) && matches!(tag, Tag::SCXML | Tag::STATE)
+}
+
+/// Whether an event begins a child of a state.
+#[tactic(auto, unfolding(crate::specs::Masked::is_start, crate::specs::Masked::is_childish))]
+fn begins_child(kind: u32, tag: u32) -> bool
+    ensures { result ≡ (is_start kind && is_childish tag) }
+{
+    kind < Kind::END && matches!(tag, Tag::STATE | Tag::PARALLEL | Tag::FINAL)
 }
 
 /// For a transition that ends: its place.
+#[tactic(auto, using(definition::proofs::Changes::place_le), unfolding(crate::specs::Masked::number_if, crate::specs::Masked::is_start))]
 fn place_for(kind: u32, tag: u32, transitions: &[[u32; 8]], t: TransitionId) -> u32
     requires { length transitions.now < 2 ^ 32 }
     ensures { result ≡ number_if (not (is_start kind) && eqb tag 16) (place_of_number transitions.now t.0) }
 {
-    if !(kind < Kind::END) & (tag == Tag::TRANSITION) {
+    if does_end(kind, tag, Tag::TRANSITION) {
         return transition_place(transitions, t) as u32;
     }
     0
 }
 
 /// A first child, where it is asked for.
+#[tactic(auto, unfolding(crate::specs::Masked::number_if))]
 fn first_if(asked: bool, members: &[[u32; 8]], d: u32, s: StateId) -> StateId
     ensures { result ≡ state_id (number_if asked (first_child_or d s.0 members.now)) }
 {
-    if asked {
-        return StateId(first_child(members, d, s));
-    }
-    StateId(0)
-}
-
-/// Whether s is a child of p, where it is asked for.
-fn child_if(asked: bool, members: &[[u32; 8]], p: StateId, s: StateId) -> bool
-    ensures { result ≡ bool_if asked (is_child_in p.0 s.0 members.now) }
-{
-    if asked {
-        return is_child(members, p, s);
-    }
-    false
+    StateId(if asked { first_child(members, d, s) } else { 0 })
 }
 
 /// A state that begins in itself is its own first child, unless it is a child already.
+#[tactic(auto, unfolding(crate::specs::View::default_for, crate::specs::View::new_first))]
 fn default_for(tag: u32, joined: bool, p: StateId, s: StateId) -> u32
     ensures { result ≡ default_for tag joined p.0 s.0 }
 {
-    if (tag != Tag::STATE) | joined {
-        return 0;
-    }
-    if p.0 == s.0 {
+    if tag == Tag::STATE && !joined && p.0 == s.0 {
         return p.0;
     }
     0
@@ -366,6 +354,7 @@ pub struct Family {
     pub eldest: StateId,
 }
 
+#[tactic(auto, unfolding(crate::specs::View::family_of, crate::specs::Masked::is_start, crate::specs::Masked::is_both, crate::specs::Masked::is_childish, crate::specs::Masked::bool_if))]
 fn kin_of(
     kind: u32,
     tag: u32,
@@ -376,21 +365,13 @@ fn kin_of(
 ) -> Family
     ensures { result ≡ family_of kind tag members.now state.0 root.0 own.0 }
 {
-    let starts = kind < Kind::END;
-    let both = (kind == Kind::EMPTY) | (kind == Kind::WHOLE);
-    let childish = (tag == Tag::STATE) | (tag == Tag::PARALLEL) | (tag == Tag::FINAL);
-    let joined = child_if(starts & childish, members, state, own);
+    let joined = begins_child(kind, tag) && is_child(members, state, own);
     let d = default_for(tag, joined, state, own);
     Family {
-        first: first_if(!starts & (tag == Tag::STATE), members, 0, state),
-        child: first_if(!starts & (tag == Tag::SCXML), members, 0, root),
-        joined: joined,
-        eldest: first_if(
-            both & ((tag == Tag::SCXML) | (tag == Tag::STATE)),
-            members,
-            d,
-            own,
-        ),
+        first: first_if(does_end(kind, tag, Tag::STATE), members, 0, state),
+        child: first_if(does_end(kind, tag, Tag::SCXML), members, 0, root),
+        joined,
+        eldest: first_if(is_whole(kind, tag), members, d, own),
     }
 }
 
@@ -420,21 +401,15 @@ pub fn see(
     ensures { result ≡ seen_by kind tag own.0 position chart.now states.now transitions.now entries.now invokes.now members.now opened.now open_regions.now }
 {
     let element = inside(opened);
-    let state = element.state;
-    let transition = element.transition;
     let root = root_of(chart);
-    let current = position.current;
-    let closed = closing_for(kind, tag, open_regions, current);
-    let entry = entry_for(tag, entries, current);
-    let kin = kin_of(kind, tag, members, state, root, own);
-    let first = kin.first;
-    let child = kin.child;
-    let eldest = kin.eldest;
+    let closed = closing_for(kind, tag, open_regions, position.current);
+    let entry = entry_for(tag, entries, position.current);
+    let kin = kin_of(kind, tag, members, element.state, root, own);
     Seen {
-        state: state,
-        transition: transition,
+        state: element.state,
+        transition: element.transition,
         parent: element.tag,
-        current: current,
+        current: position.current,
         ids: position.ids,
         docs: position.docs,
         regions: position.open_regions,
@@ -442,20 +417,20 @@ pub fn see(
         invokes: position.invokes,
         datums: position.datums,
         parameters: position.parameters,
-        closed: closed,
+        closed,
         walk: walk_for(tag, entries, position.regions, closed),
-        entry: entry,
+        entry,
         kind: entry_kind(entries, entry),
-        invoke: invoke_for(tag, invokes, state),
-        place: place_for(kind, tag, transitions, transition),
-        initial: initial_of(states, state),
-        donedata: state_cell(states, state, StateColumn::DONEDATA),
-        first: first,
-        root: root,
+        invoke: invoke_for(tag, invokes, element.state),
+        place: place_for(kind, tag, transitions, element.transition),
+        initial: initial_of(states, element.state),
+        donedata: state_cell(states, element.state, StateColumn::DONEDATA),
+        first: kin.first,
+        root,
         begins: initial_of(states, root),
-        child: child,
+        child: kin.child,
         joined: kin.joined,
         own: initial_of(states, own),
-        eldest: eldest,
+        eldest: kin.eldest,
     }
 }

@@ -5,9 +5,12 @@ use mathlib.Core.Bool.{Bool, true, false}
 use mathlib.Core.List.{List, [], ◌∷◌}
 use mathlib.Core.Option.{some}
 use native.Mathlib.Omega.{arith}
+use borrow.Author.Rules.{rules}
 use lib.ListN.{length, drop, take, length-drop}
 use lib.Seq.{length-take-le}
 use Rattle.definition.specs.declared.Position.{Position}
+use Rattle.rows.specs.declared.lent.Tables.{Tables}
+use Rattle.rows.specs.Lent.{seen_of, RowsInUse}
 use Rattle.definition.specs.Limits.{limits01}
 use Rattle.definition.specs.Rows.{Row, Table, cell_at, Numbers, Store, table_of}
 use Rattle.definition.specs.Event.{Event, in_form, keys_differ}
@@ -40,8 +43,10 @@ use Rattle.planfacts.proofs.Given.{names_inside, ids_inside, Few, few}
 use Rattle.planfacts.proofs.Bounds.{look_charge, small, position_small, brought_small}
 use Rattle.see.specs.View.{seen_by, Short}
 use Rattle.see.proofs.All.{seen_in, plan_of_seen, small_seen}
-use Rattle.decision.specs.declared.Decision.{Decision}
-use Rattle.decision.specs.Told.{told, told_by}
+use Rattle.definition.specs.Codes.{refusal_number}
+use Rattle.definition.specs.declared.codes.Refusal.{Refusal}
+use Rattle.std.proofs.Common.{Result, Ok, Err, IfOk}
+use Rattle.decision.specs.Told.{told}
 use Rattle.decide.specs.Within.{within}
 use Rattle.decide.proofs.Counted.{counted}
 use Rattle.whole.specs.Accepted.{Ready, afterwards}
@@ -55,6 +60,12 @@ ids_all t (r ∷ rs) h = (h.0, ids_all t rs h.1)
 
 -- ---- the number, of anything that was decided
 
+same_plan : {x q : Plan} → ◌≡◌ {A = Result Plan Refusal} (Ok x) (Ok q) → x ≡ q
+same_plan e = cc
+
+refusal_is : (k : Refusal) → 0 < refusal_number k
+refusal_is k = search rules
+
 module _ (s : Store) (e : Event) (q : Plan) where
   -- By the questions' first no, the refusal and question 15.
   abbrev answer : ℕ → Reply
@@ -63,23 +74,28 @@ module _ (s : Store) (e : Event) (q : Plan) where
   abbrev verdict : ℕ → Planned → Verdict
   verdict t x = elim t [ zero ↦ limited_p limits01 (look s e) s.numbers x | suc k ↦ reject (suc k) ]
 
-  limits_reply : (w b : Bool) → w ≡ b → settled s (text_after s e) (elim b [ true ↦ accept (applied (move_of (look s e).kind) (look s e) q (entered (look s e) s.numbers)) | false ↦ reject 15 ]) ≡ answer (first_of 0 0 w)
-  unfolding afterwards first_of settled
-  limits_reply true true h = refl
-  limits_reply true false h = false_is_true (sym h)
-  limits_reply false true h = false_is_true h
-  limits_reply false false h = refl
+  plan_reply : (x : Plan) (b c : Bool) → b ≡ c → (b ≡ true → x ≡ q) → settled s (text_after s e) (elim c [ true ↦ accept (applied (move_of (look s e).kind) (look s e) x (entered (look s e) s.numbers)) | false ↦ reject 15 ]) ≡ answer (elim b [ true ↦ 0 | false ↦ 15 ])
+  unfolding afterwards settled
+  plan_reply x true true h z = ap (λ (y : Plan). settled s (text_after s e) (accept (applied (move_of (look s e).kind) (look s e) y (entered (look s e) s.numbers)))) (z refl)
+  plan_reply x true false h z = false_is_true (sym h)
+  plan_reply x false true h z = false_is_true h
+  plan_reply x false false h z = refl
 
-  parts_reply : (t refusal : ℕ) (w : Bool) → (refusal ≡ 0 → w ≡ stays_within limits01 (look s e) q s.numbers) → settled s (text_after s e) (verdict t (told_by refusal q)) ≡ answer (first_of t refusal w)
-  unfolding limited_p first_of told_by settled
-  parts_reply zero zero w h = limits_reply w (stays_within limits01 (look s e) q s.numbers) (h refl)
-  parts_reply zero (suc k) w h = refl
-  parts_reply (suc k) refusal w h = refl
+  refused_reply : (k : ℕ) → 0 < k → settled s (text_after s e) (reject k) ≡ answer k
+  unfolding settled
+  refused_reply zero h = absurd (omega arith)
+  refused_reply (suc k) h = refl
 
-  replies : (t refusal : ℕ) (w : Bool) → decided limits01 s.numbers (look s e) ≡ decided_p limits01 s.numbers (look s e) → first_no (questions limits01 s.numbers (look s e)) ≡ t → told_by refusal q ≡ plan_of s.numbers (look s e)
-      → (refusal ≡ 0 → w ≡ stays_within limits01 (look s e) q s.numbers) → settled s (text_after s e) (decided limits01 s.numbers (look s e)) ≡ answer (first_of t refusal w)
+  parts_reply : (t : ℕ) (g : Result Plan Refusal) (w : Plan → Bool) → (first_of t g w ≡ 0 → g ≡ Ok q) → ((x : Plan) → w x ≡ stays_within limits01 (look s e) x s.numbers) → settled s (text_after s e) (verdict t (told g)) ≡ answer (first_of t g w)
+  unfolding limited_p first_of settled
+  parts_reply zero (Ok x) w z h = plan_reply x (w x) (stays_within limits01 (look s e) x s.numbers) (h x) (λ f. same_plan (z (ap (λ (b : Bool). elim b [ true ↦ 0 | false ↦ 15 ]) f)))
+  parts_reply zero (Err k) w z h = refused_reply (refusal_number k) (refusal_is k)
+  parts_reply (suc k) g w z h = refl
+
+  replies : (t : ℕ) (g : Result Plan Refusal) (w : Plan → Bool) → (first_of t g w ≡ 0 → g ≡ Ok q) → decided limits01 s.numbers (look s e) ≡ decided_p limits01 s.numbers (look s e) → first_no (questions limits01 s.numbers (look s e)) ≡ t → told g ≡ plan_of s.numbers (look s e)
+      → ((x : Plan) → w x ≡ stays_within limits01 (look s e) x s.numbers) → settled s (text_after s e) (decided limits01 s.numbers (look s e)) ≡ answer (first_of t g w)
   unfolding decided_p
-  replies t refusal w d f g h = ap (settled s (text_after s e)) (d ∙ (λ z. verdict (f z) (sym g z))) ∙ parts_reply t refusal w h
+  replies t g w z d f r h = ap (settled s (text_after s e)) (d ∙ (λ z. verdict (f z) (sym r z))) ∙ parts_reply t g w z h
 
 formed : (s : Store) (X : Reply) (b c : Bool) → b ≡ true → c ≡ true → ◌≡◌ {A = Reply} (elim b [ false ↦ record { number = 3; store = s } | true ↦ elim c [ false ↦ record { number = 4; store = s } | true ↦ X ] ]) X
 formed s X true true f d = refl
@@ -90,40 +106,71 @@ form_reply : (s : Store) (e : Event) → in_form limits01 e ≡ true → keys_di
 unfolding reply_to
 form_reply s e f d = formed s (settled s (text_after s e) (decided limits01 s.numbers (look s e))) (in_form limits01 e) (keys_differ e.attributes) f d
 
-first_zero : (no refusal : ℕ) (w : Bool) → first_of no refusal w ≡ 0 → (no ≡ 0) × (refusal ≡ 0) × (w ≡ true)
-unfolding first_of
-first_zero zero zero true e = (refl, refl, refl)
-first_zero zero zero false e = absurd (omega (arith, e))
-first_zero zero (suc k) w e = absurd (omega (arith, e))
-first_zero (suc k) refusal w e = absurd (omega (arith, e))
+within_zero : (b : Bool) → ◌≡◌ {A = ℕ} (elim b [ true ↦ 0 | false ↦ 15 ]) 0 → b ≡ true
+within_zero true e = refl
+within_zero false e = absurd (omega (arith, e))
 
-told_plan : (refusal : ℕ) (q : Plan) (x : Planned) → refusal ≡ 0 → told_by refusal q ≡ x → x ≡ planned q
-unfolding told_by
-told_plan zero q x r e = sym e
-told_plan (suc k) q x r e = absurd (omega (arith, r))
+-- Where the number is 0 there is a plan, and it stays within the limits.
+first_zero : (no : ℕ) (g : Result Plan Refusal) (w : Plan → Bool) (q : Plan) → g ≡ Ok q → first_of no g w ≡ 0 → (no ≡ 0) × (w q ≡ true)
+unfolding first_of
+first_zero zero (Ok x) w q z e = (refl, ap w (sym (same_plan z)) ∙ within_zero (w x) e)
+first_zero zero (Err k) w q z e = absurd (omega (arith, e, refusal_is k))
+first_zero (suc k) g w q z e = absurd (omega (arith, e))
+
+if_ok : (g : Result Plan Refusal) (P : Plan → Type 0) → ((x : Plan) → told g ≡ planned x → P x) → IfOk g P
+if_ok (Ok x) P h = h x refl
+if_ok (Err k) P h = tt
 
 -- ---- on lent slices
 
-module _ (p : Position) (a b c d f h i j k o y r : Table) (tx : List ℕ) (v : Parsed) where
+module _ (xs : Tables) (p : Position) (v : Parsed) where
+  abbrev a : Table
+  a = xs.chart.now
+
+  abbrev b : Table
+  b = xs.states.now
+
+  abbrev c : Table
+  c = xs.transitions.now
+
+  abbrev d : Table
+  d = xs.regions.now
+
+  abbrev f : Table
+  f = xs.entries.now
+
+  abbrev h : Table
+  h = xs.invokes.now
+
+  abbrev i : Table
+  i = xs.datums.now
+
+  abbrev j : Table
+  j = xs.parameters.now
+
+  abbrev k : Table
+  k = xs.members.now
+
+  abbrev o : Table
+  o = xs.opened.now
+
+  abbrev y : Table
+  y = xs.open_names.now
+
+  abbrev r : Table
+  r = xs.open_regions.now
+
+  abbrev tx : List ℕ
+  tx = xs.text.now
+
   abbrev x : Lent
-  x = record { tables = a ∷ b ∷ c ∷ d ∷ f ∷ h ∷ i ∷ j ∷ k ∷ o ∷ y ∷ r ∷ []; text = tx }
+  x = seen_of xs
 
   abbrev s : Store
   s = store_of x p
 
   abbrev n : Numbers
   n = s.numbers
-
-  -- The slices that are handed on are the parts in use.
-  pub looked_as : (m : Looked) (a' b' i' o' y' : Table) (t' : List ℕ) → a' ≡ take 1 a → b' ≡ take p.states b → i' ≡ take p.datums i → o' ≡ take p.opened o → y' ≡ take p.opened y
-      → t' ≡ take p.used tx → m ≡ looked_in a' b' i' o' y' t' p v
-      → m ≡ looked_in (take 1 a) (take p.states b) (take p.datums i) (take p.opened o) (take p.opened y) (take p.used tx) p v
-  looked_as m a' b' i' o' y' t' ea eb ei eo ey et e = e ∙ (λ z. looked_in (ea z) (eb z) (ei z) (eo z) (ey z) (et z) p v)
-
-  pub seen_as : (q g w : ℕ) (u : Seen) (a' b' c' f' h' k' o' r' : Table) → a' ≡ take 1 a → b' ≡ take p.states b → c' ≡ take p.transitions c → f' ≡ take p.entries f → h' ≡ take p.invokes h
-      → k' ≡ take p.members k → o' ≡ take p.opened o → r' ≡ take p.open_regions r → u ≡ seen_by q g w p a' b' c' f' h' k' o' r'
-      → u ≡ seen_by q g w p (take 1 a) (take p.states b) (take p.transitions c) (take p.entries f) (take p.invokes h) (take p.members k) (take p.opened o) (take p.open_regions r)
-  seen_as q g w u a' b' c' f' h' k' o' r' ea eb ec ef eh ek eo er e = e ∙ (λ z. seen_by q g w p (ea z) (eb z) (ec z) (ef z) (eh z) (ek z) (eo z) (er z))
 
   module _ (A : InForm x p v) where
     abbrev Z : Sized p a b c d f h i j k o y r tx
@@ -197,81 +244,71 @@ module _ (p : Position) (a b c d f h i j k o y r : Table) (tx : List ℕ) (v : P
         pub small_enough : Small u m.heard
         small_enough = subst (λ (z : Seen). Small z m.heard) (sym sees) (subst (λ (z : Heard). Small (seen_in s l) z) (sym tells.heard) (small_seen s l (small s A.event Z.rules A.form)))
 
-        module _ (g : Decision) (eg : told g ≡ plan_by m.heard.kind u m.heard) where
+        module _ (g : Result Plan Refusal) (eg : told g ≡ plan_by m.heard.kind u m.heard) where
           plans : told g ≡ plan_of n l
           unfolding heard
           plans = eg ∙ ((λ z. plan_by (tells.heard z).kind (sees z) (tells.heard z)) ∙ plan_of_seen s l)
 
           -- WHAT QUESTION 15 REQUIRES.
-          pub brings : g.refusal ≡ 0 → Counted p × Brought m.refs m.new m.charge g.plan
-          unfolding told
-          brings e = (
+          pub brings : IfOk g (λ q. Counted p × Brought m.refs m.new m.charge q)
+          brings = if_ok g _ (λ q e. (
             subst Counted at_position (position_small s A.event Z.rules A.form),
-            subst (λ (z : ℕ). Brought z m.new m.charge g.plan) (sym tells.refs) (
-                subst (λ (z : ℕ). Brought (length l.refs) z m.charge g.plan) (sym new_is) (
-                subst (λ (z : ℕ). Brought (length l.refs) (length (drop (length (table_of n 1)) l.known)) z g.plan) (sym tells.charge)
-                (brought_small s A.event Z.rules A.form g.plan (told_plan g.refusal g.plan (plan_of n l) e plans)))),
-          )
+            subst (λ (z : ℕ). Brought z m.new m.charge q) (sym tells.refs) (
+                subst (λ (z : ℕ). Brought (length l.refs) z m.charge q) (sym new_is) (
+                subst (λ (z : ℕ). Brought (length l.refs) (length (drop (length (table_of n 1)) l.known)) z q) (sym tells.charge)
+                (brought_small s A.event Z.rules A.form q (sym plans ∙ e)))),
+          ))
 
-          fifteen : within limits01 p m.refs m.new m.made m.charge g.plan ≡ stays_within limits01 l g.plan n
-          fifteen = (λ z. within limits01 (sym at_position z) (tells.refs z) (new_is z) m.made (tells.charge z) g.plan) ∙ counted limits01 s l m.made g.plan F.chart tells.made
+          fifteen : (q : Plan) → within limits01 p m.refs m.new m.made m.charge q ≡ stays_within limits01 l q n
+          fifteen q = (λ z. within limits01 (sym at_position z) (tells.refs z) (new_is z) m.made (tells.charge z) q) ∙ counted limits01 s l m.made q F.chart tells.made
 
           abbrev asked : ℕ
-          asked = first_of m.no g.refusal (within limits01 p m.refs m.new m.made m.charge g.plan)
+          asked = first_of m.no g (λ q. within limits01 p m.refs m.new m.made m.charge q)
 
-          pub reply : (t : ℕ) → t ≡ asked → reply_to limits01 s (some A.event) ≡ replied s A.event (record { number = t; plan = g.plan; made = m.made; charge = m.charge })
-          unfolding replied told
-          reply t et =
-              form_reply s A.event A.form A.differ
-              ∙ (replies s A.event g.plan m.no g.refusal (within limits01 p m.refs m.new m.made m.charge g.plan)
-              (decided_by_plan limits01 s A.event Z.rules (chart_there limits01 x p A.long)) (sym tells.no) plans (λ e. fifteen)
-              ∙ ap (λ (z : ℕ). elim z [ zero ↦ record { number = 0; store = afterwards s A.event g.plan } | suc k ↦ record { number = suc k; store = s } ]) (sym et))
+          module _ (t : ℕ) (et : t ≡ asked) (q : Plan) (eq : t ≡ 0 → g ≡ Ok q) where
+            pub reply : reply_to limits01 s (some A.event) ≡ replied s A.event (record { number = t; plan = q; made = m.made; charge = m.charge })
+            unfolding replied
+            reply =
+                form_reply s A.event A.form A.differ
+                ∙ (replies s A.event q m.no g (λ x. within limits01 p m.refs m.new m.made m.charge x) (λ z. eq (et ∙ z))
+                (decided_by_plan limits01 s A.event Z.rules (chart_there limits01 x p A.long)) (sym tells.no) plans fifteen
+                ∙ ap (λ (z : ℕ). elim z [ zero ↦ record { number = 0; store = afterwards s A.event q } | suc k ↦ record { number = suc k; store = s } ]) (sym et))
 
-          pub ready : (t : ℕ) → t ≡ asked → t ≡ 0 → Ready x p v g.plan m.made m.charge
-          unfolding told looked_in
-          ready t et e =
-              let O = first_zero m.no g.refusal (within limits01 p m.refs m.new m.made m.charge g.plan) (sym et ∙ e) in
-              record {
-                accepted =
-                    record {
-                      event = A.event;
-                      parsed = A.parsed;
-                      form = A.form;
-                      differ = A.differ;
-                      long = A.long;
-                      order = A.order;
-                      first = sym tells.no ∙ O.0;
-                      plan = told_plan g.refusal g.plan (plan_of n l) O.1 plans;
-                      within = sym fifteen ∙ O.2;
-                    };
-                makes = ap (λ (z : Looked). z.made) em;
-                takes = ap (λ (z : Looked). z.charge) em;
-              }
+            pub ready : t ≡ 0 → Ready x p v q m.made m.charge
+            unfolding looked_in
+            ready e =
+                let O = first_zero m.no g (λ x. within limits01 p m.refs m.new m.made m.charge x) q (eq e) (sym et ∙ e) in
+                record {
+                  accepted =
+                      record {
+                        event = A.event;
+                        parsed = A.parsed;
+                        form = A.form;
+                        differ = A.differ;
+                        long = A.long;
+                        order = A.order;
+                        first = sym tells.no ∙ O.0;
+                        plan = sym plans ∙ ap told (eq e);
+                        within = sym (fifteen q) ∙ O.1;
+                      };
+                  makes = ap (λ (z : Looked). z.made) em;
+                  takes = ap (λ (z : Looked). z.charge) em;
+                }
 
   pub settles : (m : Looked) (em : m ≡ looked_in (take 1 a) (take p.states b) (take p.datums i) (take p.opened o) (take p.opened y) (take p.used tx) p v)
       (u : Seen) (eu : u ≡ seen_by m.heard.kind m.heard.tag m.heard.own.0 p (take 1 a) (take p.states b) (take p.transitions c) (take p.entries f) (take p.invokes h) (take p.members k) (take p.opened o) (take p.open_regions r))
-      (g : Decision) (eg : told g ≡ plan_by m.heard.kind u m.heard) (t : ℕ) → t ≡ first_of m.no g.refusal (within limits01 p m.refs m.new m.made m.charge g.plan)
-      → Settles x p v (record { number = t; plan = g.plan; made = m.made; charge = m.charge })
+      (g : Result Plan Refusal) (eg : told g ≡ plan_by m.heard.kind u m.heard) (t : ℕ) (q : Plan) → t ≡ first_of m.no g (λ x. within limits01 p m.refs m.new m.made m.charge x) → (t ≡ 0 → g ≡ Ok q)
+      → Settles x p v (record { number = t; plan = q; made = m.made; charge = m.charge })
   unfolding ready
-  settles m em u eu g eg t et = record { reply = λ B. reply B m em u eu g eg t et; ready = λ B. ready B m em u eu g eg t et; same = λ B e. refl }
+  settles m em u eu g eg t q et eq = record { reply = λ B. reply B m em u eu g eg t et q eq; ready = λ B. ready B m em u eu g eg t et q eq; same = λ B e. refl }
 
--- ---- the first no
+-- ---- by the rows in use, as they are handed on
 
-pub no_first : (no refusal : ℕ) (w : Bool) → (no ≡ 0 → ⊥) → no ≡ first_of no refusal w
-unfolding first_of
-no_first zero refusal w h = absurd (h refl)
-no_first (suc k) refusal w h = refl
+module _ {xs : Tables} {p : Position} {us : Tables} (U : RowsInUse xs p us) where
+  pub looked : {m : Looked} (v : Parsed) → m ≡ looked_in us.chart.now us.states.now us.datums.now us.opened.now us.open_names.now us.text.now p v
+      → m ≡ looked_in (take 1 xs.chart.now) (take p.states xs.states.now) (take p.datums xs.datums.now) (take p.opened xs.opened.now) (take p.opened xs.open_names.now) (take p.used xs.text.now) p v
+  looked v e = e ∙ (λ z. looked_in (U.chart z) (U.states z) (U.datums z) (U.opened z) (U.open_names z) (U.text z) p v)
 
-pub refusal_first : (no refusal : ℕ) (w : Bool) → no ≡ 0 → (refusal ≡ 0 → ⊥) → refusal ≡ first_of no refusal w
-unfolding first_of
-refusal_first zero zero w e h = absurd (h refl)
-refusal_first zero (suc k) w e h = refl
-refusal_first (suc j) refusal w e h = absurd (omega (arith, e))
-
-pub within_first : (t refusal : ℕ) (b w : Bool) → t ≡ 0 → refusal ≡ 0 → b ≡ w → b ≡ true → 0 ≡ first_of t refusal w
-unfolding first_of
-within_first t refusal b w e h g f = λ z. first_of (sym e z) (sym h z) ((sym f ∙ g) z)
-
-pub fifteen_first : (t refusal : ℕ) (b w : Bool) → t ≡ 0 → refusal ≡ 0 → b ≡ w → b ≡ false → 15 ≡ first_of t refusal w
-unfolding first_of
-fifteen_first t refusal b w e h g f = λ z. first_of (sym e z) (sym h z) ((sym f ∙ g) z)
+  pub seen : (q g w : ℕ) {u : Seen} → u ≡ seen_by q g w p us.chart.now us.states.now us.transitions.now us.entries.now us.invokes.now us.members.now us.opened.now us.open_regions.now
+      → u ≡ seen_by q g w p (take 1 xs.chart.now) (take p.states xs.states.now) (take p.transitions xs.transitions.now) (take p.entries xs.entries.now) (take p.invokes xs.invokes.now) (take p.members xs.members.now) (take p.opened xs.opened.now) (take p.open_regions xs.open_regions.now)
+  seen q g w e = e ∙ (λ z. seen_by q g w p (U.chart z) (U.states z) (U.transitions z) (U.entries z) (U.invokes z) (U.members z) (U.opened z) (U.open_regions z))

@@ -1,11 +1,14 @@
 -- An event in form, settled: what is answered, and what is ready to be written.
-use Rattle.std.specs.Prelude.{ℕ, zero, suc, ◌≡◌, Bool, true, false}
+use Rattle.std.specs.Prelude.{ℕ, zero, suc, ◌≡◌, Bool, true, false, Result, Ok, Err}
 use Rattle.std.proofs.Math.Option.{some}
 use Rattle.definition.specs.declared.Position.{Position}
+use Rattle.definition.specs.Codes.{refusal_number}
 use Rattle.definition.specs.Limits.{limits01}
+use Rattle.definition.specs.declared.codes.Refusal.{Refusal}
 use Rattle.definition.specs.Event.{Event, in_form, keys_differ}
 use Rattle.definition.specs.Rows.{Store}
 use Rattle.definition.specs.Reader.{Lent, store_of, long_enough, in_order, Reply, reply_to}
+use Rattle.plan.specs.declared.Plan.{Plan}
 use Rattle.plain.specs.Plain.{Parsed, parsed_of}
 use Rattle.whole.specs.Accepted.{Ready, afterwards}
 use Rattle.settle.specs.declared.Settled.{Settled}
@@ -19,12 +22,11 @@ pub record InForm (x : Lent) (p : Position) (v : Parsed) : Type 0 where
   pub long : long_enough limits01 x ≡ true
   pub order : in_order limits01 x p ≡ true
 
--- The first no of 5 to 12, then the decision's, then 15.
-unfoldable pub first_of : ℕ → ℕ → Bool → ℕ
-first_of zero zero true = 0
-first_of zero zero false = 15
-first_of zero (suc k) w = suc k
-first_of (suc k) refusal w = suc k
+-- The first no of 5 to 12, then the decision's, then 15: w says whether the chart stays within the limits.
+unfoldable pub first_of : ℕ → Result Plan Refusal → (Plan → Bool) → ℕ
+first_of zero (Ok plan) w = elim (w plan) [ true ↦ 0 | false ↦ 15 ]
+first_of zero (Err k) w = refusal_number k
+first_of (suc k) d w = suc k
 
 -- What the definition replies, by what is settled.
 unfoldable pub replied : Store → Event → Settled → Reply

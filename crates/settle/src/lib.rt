@@ -2,24 +2,22 @@
 
 #![tactic(auto)]
 
-ghost use Rattle.std.specs.Prelude.{◌≡◌, ◌<◌, ◌^◌};
+ghost use Rattle.std.specs.Prelude.{◌≡◌, ◌<◌, IfOk, MatchResult};
 ghost use Rattle.definition.specs.Limits.{limits01};
 ghost use Rattle.plain.specs.Plain.{parsed_in};
+ghost use Rattle.rows.specs.Lent.{seen_of};
 ghost use Rattle.plan.specs.Small.{Counted, Brought};
 ghost use Rattle.decide.specs.Within.{within};
-ghost use Rattle.apply.specs.Applied.{tables_of};
 ghost use Rattle.settle.specs.Settled.{InForm, first_of, Settles};
 
 use decide::{decide, stays_within};
 use decision::Decision;
 use definition::Position;
-use look::{Looked, look};
-use plain::{Plain, Slot};
-use plan::{
-    ChartPlan, CounterPlan, DatumPlan, EntryPlan, Heard, InvokePlan, MemberPlan, MembersPlan,
-    OpenPlan, OpenRegionPlan, ParameterPlan, Plan, RegionPlan, Seen, StatePlan, TransitionPlan,
-};
-use rows::{first_8, first_24, first_48, first_bytes, first_names};
+use definition::codes::Refusal;
+use look::look;
+use plain::Plain;
+use plan::Plan;
+use rows::lent::Tables;
 use see::see;
 
 /// number: 0, or the first no. The rest counts only with 0: what the event does, whether it draws a name, and what it takes of the text charge.
@@ -31,8 +29,9 @@ pub struct Settled {
     pub charge: u32,
 }
 
-// 15 is asked last, and only of an event that has a plan.
-fn first_of(
+/// The plan, or the first no: 15 is asked last, and only of an event that has a plan.
+#[tactic(auto, unfolding(crate::specs::Settled::first_of))]
+fn decided(
     no: u32,
     p: Position,
     refs: usize,
@@ -40,54 +39,33 @@ fn first_of(
     made: bool,
     charge: usize,
     d: Decision,
-) -> u32
-    requires { d.refusal ≡ 0 → Counted p × Brought refs new charge d.plan }
-    ensures { result ≡ first_of no d.refusal (within limits01 p refs new made charge d.plan) }
+) -> Result<Plan, u32>
+    requires { IfOk d (λ plan. Counted p × Brought refs new charge plan) }
+    ensures { let number = first_of no d (λ plan. within limits01 p refs new made charge plan) in MatchResult result (λ plan. (number ≡ 0) × (d ≡ Ok plan)) (λ k. (k ≡ number) × (0 < k)) }
 {
     if no != 0 {
-        return no;
+        return Err(no);
     }
-    if d.refusal != 0 {
-        return d.refusal;
+    match d {
+        Err(refusal) => Err(refusal.number()),
+        Ok(plan) if stays_within(p, refs, new, made, charge, plan) => Ok(plan),
+        Ok(_) => Err(Refusal::Full.number()),
     }
-    if stays_within(p, refs, new, made, charge, d.plan) {
-        return 0;
-    }
-    15
 }
 
-/// Of slices that are long enough and in order.
-pub fn settle(
-    chart: &[[u32; 24]],
-    states: &[[u32; 24]],
-    transitions: &[[u32; 8]],
-    regions: &[[u32; 8]],
-    entries: &[[u32; 48]],
-    invokes: &[[u32; 24]],
-    datums: &[[u32; 8]],
-    parameters: &[[u32; 8]],
-    members: &[[u32; 8]],
-    opened: &[[u32; 8]],
-    names: &[[u8; 64]],
-    pending: &[[u32; 8]],
-    text: &[u8],
-    p: Position,
-    src: &[u8],
-    pl: Plain,
-) -> Settled
-    requires { InForm (record { tables = tables_of chart.now states.now transitions.now regions.now entries.now invokes.now datums.now parameters.now members.now opened.now names.now pending.now; text = text.now }) p (parsed_in src.now pl) }
-    ensures { Settles (record { tables = tables_of chart.now states.now transitions.now regions.now entries.now invokes.now datums.now parameters.now members.now opened.now names.now pending.now; text = text.now }) p (parsed_in src.now pl) result }
+/// Of tables that are long enough and in order.
+pub fn settle(tables: Tables<'_>, p: Position, src: &[u8], pl: Plain) -> Settled
+    requires { InForm (seen_of tables) p (parsed_in src.now pl) }
+    ensures { Settles (seen_of tables.entry) p (parsed_in src.now pl) result }
 {
-    let c = first_24(chart, 1);
-    let s = first_24(states, p.states);
-    let w = first_8(opened, p.opened);
+    let used = tables.in_use(p);
     let l = look(
-        c,
-        s,
-        first_8(datums, p.datums),
-        w,
-        first_names(names, p.opened),
-        first_bytes(text, p.used),
+        used.chart,
+        used.states,
+        used.datums,
+        used.opened,
+        used.open_names,
+        used.text,
         src,
         pl,
         p,
@@ -98,23 +76,24 @@ pub fn settle(
         h.tag,
         h.own,
         p,
-        c,
-        s,
-        first_8(transitions, p.transitions),
-        first_48(entries, p.entries),
-        first_24(invokes, p.invokes),
-        first_8(members, p.members),
-        w,
-        first_8(pending, p.open_regions),
+        used.chart,
+        used.states,
+        used.transitions,
+        used.entries,
+        used.invokes,
+        used.members,
+        used.opened,
+        used.open_regions,
     );
     let d = decide(h.kind, v, h);
-    let charge = l.charge;
-    let number = first_of(l.no, p, l.refs, l.new, l.made, charge, d);
-    let plan = d.plan;
+    let (number, plan) = match decided(l.no, p, l.refs, l.new, l.made, l.charge, d) {
+        Ok(plan) => (0, plan),
+        Err(number) => (number, Plan::default()),
+    };
     Settled {
-        number: number,
-        plan: plan,
+        number,
+        plan,
         made: l.made,
-        charge: charge as u32,
+        charge: l.charge as u32,
     }
 }

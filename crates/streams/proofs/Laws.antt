@@ -20,9 +20,7 @@ use Rattle.walk.proofs.StreamLaws.{event_within}
 use Rattle.event.specs.Description.{Described}
 use Rattle.event.specs.Described.{described}
 use Rattle.questions.specs.Lent.{first_two}
-use Rattle.conclude.specs.declared.Answer as F
 use Rattle.conclude.specs.Fed.{given}
-use Rattle.streams.specs.declared.Streamed as T
 use Rattle.streams.specs.Stream.{ended}
 
 -- ---- the questions 1 and 2
@@ -110,12 +108,6 @@ stays x p raw = let r : Reply = event_reply limits01 (store_of x p) raw in at (g
     at a e zero f = absurd (f e)
     at a e (suc k) f = refl
 
-pub ends : (k n : ℕ) (q : Position) (y : Lent) (r : T.Streamed) → r ≡ record { number = k; event = n; position = q } → {w : Streamed} → ended k n q y ≡ w → ended r.number r.event r.position y ≡ w
-ends k n q y r e h = ap (λ (z : T.Streamed). ended z.number z.event z.position y) e ∙ h
-
-pub gives : (k : ℕ) (q : Position) (y : Lent) (r : F.Answer) → r ≡ record { number = k; position = q } → {w : Answer} → given k q y ≡ w → given r.number r.position y ≡ w
-gives k q y r e h = ap (λ (z : F.Answer). given z.number z.position y) e ∙ h
-
 -- A stream without an event, and one whose questions 1 or 2 are no.
 module _ (x : Lent) (p : Position) (bytes : List ℕ) where
   pub stream_none : length bytes ≡ 0 → ended 0 0 p x ≡ stream limits01 x p bytes
@@ -172,12 +164,12 @@ pub record Ran (x₀ : Lent) (p₀ : Position) (bytes : List ℕ) (x : Lent) (p 
   pub few : n ≤ i
   pub rest : streamed limits01 x p n (events_of (drop i bytes)) ≡ stream limits01 x₀ p₀ bytes
 
-module _ (x₀ : Lent) (p₀ : Position) (bytes : List ℕ) where
+module _ {x₀ : Lent} {p₀ : Position} {bytes : List ℕ} where
   pub ran_first : first_two x₀ p₀ ≡ 0 → Ran x₀ p₀ bytes x₀ p₀ 0 0
   unfolding stream
   ran_first e = record { asked = e; few = omega arith; rest = refl }
 
-  module _ (x : Lent) (p : Position) (i n : ℕ) (ran : Ran x₀ p₀ bytes x p i n) where
+  module _ {x : Lent} {p : Position} {i n : ℕ} (ran : Ran x₀ p₀ bytes x p i n) where
     pub ran_last : length bytes ≤ i → ended 0 0 p x ≡ stream limits01 x₀ p₀ bytes
     ran_last h = none_left x p n (drop i bytes) (omega (arith, h, length-drop i bytes)) ∙ ran.rest
 
@@ -188,7 +180,7 @@ module _ (x₀ : Lent) (p₀ : Position) (bytes : List ℕ) where
     left_is : leftover ≡ drop i bytes
     left_is = take_all (length bytes - i) (drop i bytes) (omega (arith, length-drop i bytes))
 
-    module _ (h : i < length bytes) (m : ℕ) (ec : m ≡ event_length leftover) where
+    module _ (h : i < length bytes) {m : ℕ} (ec : m ≡ event_length leftover) where
       em : m ≡ event_length (drop i bytes)
       em = ec ∙ ap event_length left_is
 
@@ -201,15 +193,15 @@ module _ (x₀ : Lent) (p₀ : Position) (bytes : List ℕ) where
       pub stays_in : i + m ≤ length bytes
       stays_in = omega (arith, h, em, event_within (drop i bytes), length-drop i bytes)
 
-      module _ (raw : List ℕ) (er : raw ≡ part bytes i m) where
+      module _ {raw : List ℕ} (er : raw ≡ part bytes i m) where
         whole_event : raw ≡ take (event_length (drop i bytes)) (drop i bytes)
         unfolding part
         whole_event = er ∙ ap (λ (k : ℕ). take k (drop i bytes)) em
 
-        pub taken_apart : (d : Described) → d ≡ described (take (event_length leftover) leftover) → d ≡ described raw
-        taken_apart d ed = ed ∙ (ap (λ (z : List ℕ). described (take (event_length z) z)) left_is ∙ ap described (sym whole_event))
+        pub taken_apart : {d : Described} → d ≡ described (take (event_length leftover) leftover) → d ≡ described raw
+        taken_apart ed = ed ∙ (ap (λ (z : List ℕ). described (take (event_length z) z)) left_is ∙ ap described (sym whole_event))
 
-      module _ (raw : List ℕ) (er : raw ≡ part bytes i m) (k : ℕ) (q : Position) (y : Lent) (ea : given k q y ≡ answer_to limits01 x p (event raw)) where
+      module _ {raw : List ℕ} (er : raw ≡ part bytes i m) {k : ℕ} {q : Position} {y : Lent} (ea : given k q y ≡ answer_to limits01 x p (event raw)) where
         past : drop (event_length (drop i bytes)) (drop i bytes) ≡ drop (i + m) bytes
         past = drop-drop (event_length (drop i bytes)) i bytes ∙ ap (λ (l : ℕ). drop (i + l) bytes) (sym em)
 
@@ -219,7 +211,7 @@ module _ (x₀ : Lent) (p₀ : Position) (bytes : List ℕ) where
         stepped : step k (streamed limits01 y q (suc n) (events_of (drop (i + m) bytes))) n x p ≡ stream limits01 x₀ p₀ bytes
         stepped =
             ap (λ (z : List ℕ). step k (streamed limits01 y q (suc n) (events_of z)) n x p) (sym past)
-            ∙ (sym (one_more_lem x p n (drop i bytes) left (given k q y) (is_call ∙ ap (λ (z : List ℕ). call limits01 x p (event z)) (whole_event raw er))) ∙ ran.rest)
+            ∙ (sym (one_more_lem x p n (drop i bytes) left (given k q y) (is_call ∙ ap (λ (z : List ℕ). call limits01 x p (event z)) (whole_event er))) ∙ ran.rest)
 
         pub ran_more : k ≡ 0 → Ran x₀ p₀ bytes y q (i + m) (n + 1)
         unfolding step

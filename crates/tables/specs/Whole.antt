@@ -1,5 +1,5 @@
 -- A plan on a whole lent table, n rows of which are in use: regions, members named one by one, what is open.
-use Rattle.std.specs.Prelude.{ℕ, zero, suc, ◌+◌, [], ◌∷◌, set}
+use Rattle.std.specs.Prelude.{ℕ, zero, suc, ◌+◌, List, [], ◌∷◌, set}
 use Rattle.definition.specs.Rows.{Row, Table}
 use Rattle.definition.specs.Change.{open_region_row}
 use Rattle.plan.specs.declared.MemberPlan.{MemberPlan}
@@ -9,7 +9,7 @@ use Rattle.plan.specs.declared.RegionPlan.{RegionPlan}
 use Rattle.plan.specs.After.{member_row, region_row}
 
 -- A row that is there unless k is 0, and how many rows there are then.
-unfoldable pub set_unless : ℕ → Table → ℕ → Row → Table
+unfoldable pub set_unless : {A : Type 0} → ℕ → List A → ℕ → A → List A
 set_unless zero t i r = t
 set_unless (suc k) t i r = set t i r
 

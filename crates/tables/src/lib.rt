@@ -2,7 +2,7 @@
 
 #![tactic(auto)]
 
-ghost use Rattle.std.specs.Prelude.{◌≡◌, ◌<◌, set};
+ghost use Rattle.std.specs.Prelude.{◌≡◌, ◌<◌, ◌≤◌};
 ghost use Rattle.definition.specs.Change.{open_region_row};
 ghost use Rattle.plan.specs.After.{member_row, region_row};
 ghost use Rattle.tables.specs.Whole.{set_unless, after, regions_in, member_in, opened_row, open_row_in, open_regions_in};
@@ -10,95 +10,56 @@ ghost use Rattle.tables.specs.Whole.{set_unless, after, regions_in, member_in, o
 use definition::RegionId;
 use opens::opened;
 use plan::{MemberPlan, OpenPlan, OpenRegionPlan, RegionPlan};
-use rows::index;
+use rows::put;
 
-// Past the end nothing is written.
-pub fn put_8(t: &mut [[u32; 8]], r: usize, row: [u32; 8])
-    ensures { t.new ≡ set t.old r row }
-{
-    if r < t.len() {
-        t[r] = row;
-        return;
-    }
-}
-
-pub fn put_24(t: &mut [[u32; 24]], r: usize, row: [u32; 24])
-    ensures { t.new ≡ set t.old r row }
-{
-    if r < t.len() {
-        t[r] = row;
-        return;
-    }
-}
-
-pub fn put_48(t: &mut [[u32; 48]], r: usize, row: [u32; 48])
-    ensures { t.new ≡ set t.old r row }
-{
-    if r < t.len() {
-        t[r] = row;
-        return;
-    }
-}
-
-fn put_unless(t: &mut [[u32; 8]], k: u32, r: usize, row: [u32; 8])
-    ensures { t.new ≡ set_unless k t.old r row }
-{
-    if k == 0 {
-        return;
-    }
-    put_8(t, r, row);
-}
-
-fn more(n: usize, k: u32) -> usize
-    requires { n < 65536 }
-    ensures { result ≡ after n k }
+// A row, unless k is 0; where the next one goes.
+#[tactic(auto, unfolding(crate::specs::Whole::set_unless, crate::specs::Whole::after))]
+fn put_unless<T: Copy>(rows: &mut [T], k: u32, n: usize, row: T) -> usize
+    requires { n ≤ 65536 }
+    ensures value { result ≡ after n k }
+    ensures rows_after { rows.new ≡ set_unless k rows.old n row }
 {
     if k == 0 {
         return n;
     }
+    put(rows, n, row);
     n + 1
 }
 
+#[tactic(auto, unfolding(plan::specs::After::region_row))]
 fn region_row(i: RegionId) -> [u32; 8]
     ensures { result ≡ region_row i.0 }
 {
     [i.0, 0, 0, 0, 0, 0, 0, 0]
 }
 
+#[tactic(auto, unfolding(crate::specs::Whole::regions_in))]
 pub fn change_regions(regions: &mut [[u32; 8]], n: usize, p: RegionPlan)
     requires { n < 65536 }
     ensures { regions.new ≡ regions_in p n regions.old }
 {
-    let one = region_row(p.one);
-    let two = region_row(p.two);
-    let m = more(n, p.one.0);
-    put_unless(regions, p.one.0, n, one);
-    put_unless(regions, p.two.0, m, two);
+    let next = put_unless(regions, p.one.0, n, region_row(p.one));
+    put_unless(regions, p.two.0, next, region_row(p.two));
 }
 
+#[tactic(auto, unfolding(plan::specs::After::member_row))]
 fn member_row(p: MemberPlan) -> [u32; 8]
     ensures { result ≡ member_row p.list p.owner p.value }
 {
     [p.list, p.owner, p.value, 0, 0, 0, 0, 0]
 }
 
-fn add_member(members: &mut [[u32; 8]], n: usize, p: MemberPlan)
-    ensures { members.new ≡ member_in p n members.old }
-{
-    let row = member_row(p);
-    put_unless(members, p.list, n, row);
-}
-
 // Both members that are named one by one, from the row n on.
+#[tactic(auto, unfolding(crate::specs::Whole::member_in, crate::specs::Whole::after))]
 pub fn add_two(members: &mut [[u32; 8]], n: usize, one: MemberPlan, two: MemberPlan)
     requires { n < 65536 }
     ensures { members.new ≡ member_in two (after n one.list) (member_in one n members.old) }
 {
-    let m = more(n, one.list);
-    add_member(members, n, one);
-    add_member(members, m, two);
+    let next = put_unless(members, one.list, n, member_row(one));
+    put_unless(members, two.list, next, member_row(two));
 }
 
+#[tactic(auto, unfolding(crate::specs::Whole::opened_row))]
 fn opened_row(tag: u32, length: u32, p: OpenPlan) -> [u32; 8]
     ensures { result ≡ opened_row tag length p }
 {
@@ -116,6 +77,7 @@ fn opened_row(tag: u32, length: u32, p: OpenPlan) -> [u32; 8]
 }
 
 // moves 0: one more is open. Else no row is written: the count alone says what is open.
+#[tactic(auto, unfolding(crate::specs::Whole::open_row_in))]
 pub fn change_opened(
     opened: &mut [[u32; 8]],
     n: usize,
@@ -127,26 +89,23 @@ pub fn change_opened(
     ensures { opened.new ≡ open_row_in moves n opened.old (opened_row tag length p) }
 {
     if moves == 0 {
-        let row = opened_row(tag, length, p);
-        put_8(opened, n, row);
-        return;
+        put(opened, n, opened_row(tag, length, p));
     }
 }
 
+#[tactic(auto, unfolding(definition::specs::Change::open_region_row))]
 fn open_region_row(region: RegionId, tag: u32) -> [u32; 8]
     ensures { result ≡ open_region_row region.0 tag }
 {
     [region.0, tag, 0, 0, 0, 0, 0, 0]
 }
 
+#[tactic(auto, unfolding(crate::specs::Whole::open_regions_in))]
 pub fn change_open_regions(regions: &mut [[u32; 8]], p: OpenRegionPlan)
     requires { p.kept < 65536 }
     ensures { regions.new ≡ open_regions_in p regions.old }
 {
-    let n = index(p.kept);
-    let one = open_region_row(p.region, p.tag);
-    let two = open_region_row(p.inner, p.by);
-    let m = more(n, p.tag);
-    put_unless(regions, p.tag, n, one);
-    put_unless(regions, p.by, m, two);
+    let row = open_region_row(p.region, p.tag);
+    let next = put_unless(regions, p.tag, p.kept as usize, row);
+    put_unless(regions, p.by, next, open_region_row(p.inner, p.by));
 }

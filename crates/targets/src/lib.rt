@@ -17,20 +17,21 @@ use definition::codes::{Key, Kind, ListKind, Tag};
 use fill::TextCell;
 use names::find_state;
 use nesting::names_state;
-use rows::index;
 use texts::key_cell;
 use words::next_state_word;
 
-fn put_state(states: &mut [[u32; 24]], i: usize, at: u32, len: u32)
+#[tactic(auto, using(crate::proofs::Laws::state_row_lem))]
+fn put_state(states: &mut [[u32; 24]], i: usize, name: TextCell)
     requires { i < length states.old }
-    ensures { states.new ≡ set states.old i (state_row (record { at = at; len = len })) }
+    ensures { states.new ≡ set states.old i (state_row (record { at = name.at; len = name.len })) }
 {
     let mut row = [0u32; 24];
-    row[StateColumn::NAME] = at;
-    row[StateColumn::NAME_LENGTH] = len;
+    row[StateColumn::NAME] = name.at;
+    row[StateColumn::NAME_LENGTH] = name.len;
     states[i] = row;
 }
 
+#[tactic(auto, using(crate::proofs::Laws::member_row_lem))]
 fn put_member(members: &mut [[u32; 8]], i: usize, kind: u32, owner: u32, value: u32)
     requires { i < length members.old }
     ensures { members.new ≡ set members.old i (member_row kind owner value) }
@@ -58,23 +59,24 @@ fn enter_name(
     ensures value { result ≡ find_name text.now (name_cells (take count states.old)) (bytes_at text.now (record { off = off; len = len })) }
     ensures states_after { states.new ≡ placed_row states.old count result (record { at = off + 1; len = len }) }
 {
-    let end = off + len;
-    let found = find_state(states, count, text, &text[off..end], near);
+    let found = find_state(states, count, text, &text[off..off + len], near);
     if found < count {
         return found;
     }
-    put_state(states, count, (off + 1) as u32, len as u32);
+    let name = TextCell {
+        at: (off + 1) as u32,
+        len: len as u32,
+    };
+    put_state(states, count, name);
     found
 }
 
+#[tactic(auto, using(crate::proofs::Laws::count_known, crate::proofs::Laws::count_new))]
 fn count_after(count: usize, k: usize) -> usize
     requires { count < 2 ^ 32 }
     ensures { result ≡ count_after count k }
 {
-    if k < count {
-        return count;
-    }
-    count + 1
+    if k < count { count } else { count + 1 }
 }
 
 // How many rows of each table are in use.
@@ -89,43 +91,32 @@ fn enter_targets(
     states: &mut [[u32; 24]],
     members: &mut [[u32; 8]],
     text: &[u8],
-    count: usize,
-    used: usize,
+    mut rows: Rows,
     off: usize,
     len: usize,
     owner: u32,
 ) -> Rows
-    requires { Room states.old members.old text.now count used off len }
-    ensures { Entered states.old members.old text.now count used off len owner states.new members.new result.states result.members }
+    requires { Room states.old members.old text.now rows.states rows.members off len }
+    ensures { Entered states.old members.old text.now rows.states rows.members off len owner states.new members.new result.states result.members }
 {
-    let end = off + len;
-    let v = &text[off..end];
-    let mut n = count;
-    let mut m = used;
+    let v = &text[off..off + len];
     let mut at = 0;
     // Targets that are listed together are often neighbours.
     let mut near = 0;
     while at < v.len() {
         let next = next_state_word(v, at);
-        let start = next.start;
-        let stop = next.end;
-        if start == stop {
-            return Rows {
-                states: n,
-                members: m,
-            };
+        if next.start == next.end {
+            return rows;
         }
-        let k = enter_name(states, n, text, off + start, stop - start, near);
-        put_member(members, m, ListKind::TARGETS, owner, (k + 1) as u32);
-        n = count_after(n, k);
-        m += 1;
-        at = stop;
+        let long = next.end - next.start;
+        let k = enter_name(states, rows.states, text, off + next.start, long, near);
         near = k + 1;
+        put_member(members, rows.members, ListKind::TARGETS, owner, near as u32);
+        rows.states = count_after(rows.states, k);
+        rows.members += 1;
+        at = next.end;
     }
-    Rows {
-        states: n,
-        members: m,
-    }
+    rows
 }
 
 // The words of one text name states, in order, and are the targets of the transition `owner`.
@@ -133,26 +124,26 @@ fn write_targets(
     states: &mut [[u32; 24]],
     members: &mut [[u32; 8]],
     text: &[u8],
-    count: usize,
-    used: usize,
+    rows: Rows,
     c: TextCell,
     owner: u32,
 ) -> Rows
-    requires name_room { NameRoom states.old members.old text.now count used 0 (pieces_at text.now (as_cell c)) }
+    requires name_room { NameRoom states.old members.old text.now rows.states rows.members 0 (pieces_at text.now (as_cell c)) }
     requires in_text { InText text.now (as_cell c) }
-    ensures { NamesWritten states.old members.old text.now count used owner 0 (pieces_at text.now (as_cell c)) states.new members.new result.states result.members }
+    ensures { NamesWritten states.old members.old text.now rows.states rows.members owner 0 (pieces_at text.now (as_cell c)) states.new members.new result.states result.members }
 {
-    let at = c.at;
-    let long = c.len;
-    if at == 0 {
-        return Rows {
-            states: count,
-            members: used,
-        };
+    if c.at == 0 {
+        return rows;
     }
-    let off = index(at - 1);
-    let len = index(long);
-    enter_targets(states, members, text, count, used, off, len, owner)
+    enter_targets(
+        states,
+        members,
+        text,
+        rows,
+        c.at as usize - 1,
+        c.len as usize,
+        owner,
+    )
 }
 
 // An element's own name, then the states of its `initial` attribute.
@@ -160,24 +151,35 @@ fn write_state(
     states: &mut [[u32; 24]],
     members: &mut [[u32; 8]],
     text: &[u8],
-    count: usize,
-    used: usize,
+    rows: Rows,
     t: &[u32],
     owner: u32,
 ) -> Rows
-    requires name_room { NameRoom states.old members.old text.now count used 1 (own_piece text.now (cell_at t.now 2) ∷ pieces_at text.now (cell_at t.now 4)) }
+    requires name_room { NameRoom states.old members.old text.now rows.states rows.members 1 (own_piece text.now (cell_at t.now 2) ∷ pieces_at text.now (cell_at t.now 4)) }
     requires bound { ((1 ≤ (cell_at t.now 2).at) × ((cell_at t.now 2).at + (cell_at t.now 2).len ≤ suc (length text.now))) × InText text.now (cell_at t.now 4) }
-    ensures { NamesWritten states.old members.old text.now count used owner 1 (own_piece text.now (cell_at t.now 2) ∷ pieces_at text.now (cell_at t.now 4)) states.new members.new result.states result.members }
+    ensures { NamesWritten states.old members.old text.now rows.states rows.members owner 1 (own_piece text.now (cell_at t.now 2) ∷ pieces_at text.now (cell_at t.now 4)) states.new members.new result.states result.members }
 {
     let own = key_cell(t, Key::ID);
-    let at = own.at;
-    let long = own.len;
-    let off = index(at - 1);
-    let len = index(long);
-    let k = enter_name(states, count, text, off, len, 0);
-    let n = count_after(count, k);
-    let c = key_cell(t, Key::INITIAL);
-    write_targets(states, members, text, n, used, c, owner)
+    let k = enter_name(
+        states,
+        rows.states,
+        text,
+        own.at as usize - 1,
+        own.len as usize,
+        0,
+    );
+    let after = Rows {
+        states: count_after(rows.states, k),
+        members: rows.members,
+    };
+    write_targets(
+        states,
+        members,
+        text,
+        after,
+        key_cell(t, Key::INITIAL),
+        owner,
+    )
 }
 
 /// The names that an event brings: rows of states, and members for targets.
@@ -196,21 +198,18 @@ pub fn write_names(
     requires own_in { OwnIn kind tag text.now t.now × TargetsIn text.now t.now }
     ensures { NamesWritten states.old members.old text.now count used owner (skip_of kind tag) (pieces_in kind tag text.now t.now) states.new members.new result.states result.members }
 {
-    if kind == Kind::END {
-        return Rows {
-            states: count,
-            members: used,
-        };
-    }
-    if names_state(tag) {
-        return write_state(states, members, text, count, used, t, owner);
-    }
-    if tag == Tag::TRANSITION {
-        let c = key_cell(t, Key::TARGET);
-        return write_targets(states, members, text, count, used, c, owner);
-    }
-    Rows {
+    let rows = Rows {
         states: count,
         members: used,
+    };
+    if kind == Kind::END {
+        return rows;
     }
+    if names_state(tag) {
+        return write_state(states, members, text, rows, t, owner);
+    }
+    if tag == Tag::TRANSITION {
+        return write_targets(states, members, text, rows, key_cell(t, Key::TARGET), owner);
+    }
+    rows
 }

@@ -1,30 +1,34 @@
--- What the loops of this crate, and its callers, need of the definitions: each definition at a part of a list that starts at i.
+-- What this crate and those above it need of the definitions of texts: equality as std has it, letter case, the place of a word, spans.
 use mathlib.Core.Path.{◌≡◌, refl, ap, sym, ◌∙◌}
 use mathlib.Core.List.{List, [], ◌∷◌}
-use mathlib.Core.Bool.{Bool, true, false}
-use Prim.Native.Nat.{ℕ, suc, ◌+◌, ◌-◌, ◌≤◌, ◌<◌}
-use native.Mathlib.Numerals.{add-one}
+use mathlib.Core.Bool.{Bool, true, false, ◌&&◌}
+use Prim.Native.Nat.{ℕ, suc, ◌+◌, ◌-◌, ◌≤◌}
+use native.Mathlib.Numerals.{one-add}
 use native.Mathlib.Omega.{arith}
 use lib.Dec.{eqb, eqb-suc-zero}
-use lib.ListN.{length, get_or, take, drop, drop_of_length-le, length-drop, length-map, get_or-map}
-use lib.Seq.{drop-cons, take_all, take-nil}
-use borrow.Author.Tests.{le-leb, lt-leb, ne_eqb, eq-eqb, eqb-true, eqb-false}
+use lib.Pointwise.{pointwise}
+use Rattle.std.proofs.Common.{Some, None, Bor, map, cond, not, min, zip, position, unwrap_or, nat_eq, nat_lt}
+use Rattle.std.specs.List.{list_all, position_or_len}
+use Rattle.std.proofs.lemmas.List.Sums.{prefix_len-le-length}
+use Rattle.std.proofs.lemmas.List.{take_min, drop_min}
+use lib.ListN.{length, take, drop, length-drop, length-map}
+use lib.Seq.{take_all}
+use borrow.Author.Tests.{ne_eqb, eq-eqb, eqb-true, eqb-false}
 use Rattle.definition.specs.Text.{same, place_in, lower, lowered, bytes_at}
 
 -- ---- equality
 
-module _ (a b : List ℕ) (i : ℕ) where
-  pub same_more : i < length a → i < length b → get_or a i 0 ≡ get_or b i 0 → same (drop (i + 1) a) (drop (i + 1) b) ≡ same (drop i a) (drop i b)
-  unfolding same
-  same_more h k e = rw (add-one, drop-cons a i 0 h, drop-cons b i 0 k, eq-eqb _ _ e, same)
+both : (p q : Bool) → (p && q) ≡ elim p [ true ↦ q | false ↦ false ]
+both true q = refl
+both false q = refl
 
-  pub same_stop : i < length a → i < length b → (get_or a i 0 ≡ get_or b i 0 → ⊥) → same (drop i a) (drop i b) ≡ false
-  unfolding same
-  same_stop h k e = rw (drop-cons a i 0 h, drop-cons b i 0 k, ne_eqb _ _ e, same)
-
-  pub same_end : length a ≤ i → length b ≤ i → same (drop i a) (drop i b) ≡ true
-  unfolding same
-  same_end h k = rw (drop_of_length-le a h, drop_of_length-le b k)
+-- `==` at slices of bytes.
+pub pointwise_same : (a b : List ℕ) → pointwise nat_eq a b ≡ same a b
+unfolding same
+pointwise_same [] [] = refl
+pointwise_same [] (y ∷ ys) = refl
+pointwise_same (x ∷ xs) [] = refl
+pointwise_same (x ∷ xs) (y ∷ ys) = ap (λ (r : Bool). eqb x y && r) (pointwise_same xs ys) ∙ both (eqb x y) (same xs ys)
 
 eqb_sym : (x y : ℕ) → eqb x y ≡ eqb y x
 eqb_sym x y = go (eqb x y) refl
@@ -50,22 +54,13 @@ same_empty (x ∷ xs) = eqb-suc-zero (length xs)
 
 -- ---- letter case
 
-module _ (b : ℕ) where
-  pub lower_below : b < 65 → b ≡ lower b
-  unfolding lower
-  lower_below h = rw (lt-leb _ _ h, lower)
-
-  pub lower_above : 90 < b → b ≡ lower b
-  unfolding lower
-  lower_above h = let k : 65 ≤ b = omega arith in rw (le-leb _ _ k, lt-leb _ _ h, lower)
-
-  pub lower_letter : 65 ≤ b → b ≤ 90 → b + 32 ≡ lower b
-  unfolding lower
-  lower_letter h k = rw (le-leb _ _ h, le-leb _ _ k, lower)
-
-pub lowered_at : (v : List ℕ) (i : ℕ) → get_or (lowered v) i 0 ≡ lower (get_or v i 0)
-unfolding lowered lower
-lowered_at v i = get_or-map lower v i 0
+-- Two texts of one length, compared pair by pair.
+pub zipped_same : (w v : List ℕ) → length w ≡ length v → list_all (λ (p : ℕ × ℕ). nat_eq p.0 (lower p.1)) (zip w v) ≡ same w (lowered v)
+unfolding same lowered
+zipped_same [] [] e = refl
+zipped_same [] (y ∷ ys) e = absurd (omega arith)
+zipped_same (x ∷ xs) [] e = absurd (omega arith)
+zipped_same (x ∷ xs) (y ∷ ys) e = ap (λ (r : Bool). eqb x (lower y) && r) (zipped_same xs ys (omega arith)) ∙ both (eqb x (lower y)) (same xs (lowered ys))
 
 pub lowered_length : (v : List ℕ) → length (lowered v) ≡ length v
 unfolding lowered
@@ -73,31 +68,44 @@ lowered_length v = length-map v lower
 
 -- ---- the place of a word
 
-module _ (x : List ℕ) (xs : List (List ℕ)) (w : List ℕ) where
-  pub place_here : same x w ≡ true → place_in (x ∷ xs) w ≡ 0
-  unfolding place_in
-  place_here e = rw (e, place_in)
+or_length : (n m : ℕ) → n ≤ m → unwrap_or (cond (nat_lt n m) (Some n) None) m ≡ n
+or_length n m h = choose (nat_lt n m) refl
+  where
+    choose : (p : Bool) → nat_lt n m ≡ p → unwrap_or (cond p (Some n) None) m ≡ n
+    choose true e = refl
+    choose false e = grind arith
 
-  pub place_next : same x w ≡ false → place_in (x ∷ xs) w ≡ suc (place_in xs w)
-  unfolding place_in
-  place_next e = rw (e, place_in)
+-- Of words that are lent.
+module _ (q : List ℕ) where
+  abbrev is : Bor (List ℕ) → Bool
+  is w = same w.now q
 
-pub place_none : (w : List ℕ) → place_in [] w ≡ 0
-unfolding place_in
-place_none w = refl
+  abbrev words_of : List (Bor (List ℕ)) → List (List ℕ)
+  words_of ws = map (λ (w : Bor (List ℕ)). w.now) ws
+
+  place_len : (ws : List (Bor (List ℕ))) → position_or_len is ws ≡ place_in (words_of ws) q
+  unfolding place_in
+  place_len [] = refl
+  place_len (w ∷ ws) = choose (same w.now q) (place_len ws)
+    where
+      choose : (p : Bool) → position_or_len is ws ≡ place_in (words_of ws) q → cond (not p) (1 + position_or_len is ws) 0 ≡ elim p [ true ↦ 0 | false ↦ suc (place_in (words_of ws) q) ]
+      choose true e = refl
+      choose false e = one-add _ ∙ ap suc e
+
+  pub place_found : (ws : List (Bor (List ℕ))) → unwrap_or (position is ws) (length ws) ≡ place_in (words_of ws) q
+  place_found ws = or_length (position_or_len is ws) (length ws) (prefix_len-le-length (λ w. not (is w)) ws) ∙ place_len ws
 
 -- ---- spans
 
-module _ (t : List ℕ) (off len : ℕ) where
-  pub past_end : length t ≤ off → (w : List ℕ) → eqb (length w) 0 ≡ same (bytes_at t (record { off = off; len = len })) w
-  unfolding bytes_at
-  past_end h w = rw (drop_of_length-le t h, take-nil len) (same_empty w)
+-- A span of a text, as code takes it from what is left of the text.
+pub span_is : (t : List ℕ) (off len m n : ℕ) → m ≡ min off (length t) → n ≡ min len (length (take (length t - m) (drop m t)))
+    → take n (take (length t - m) (drop m t)) ≡ bytes_at t (record { off = off; len = len })
+unfolding bytes_at
+span_is t off len m n e f =
+    let z : take (length t - m) (drop m t) ≡ drop off t = take_all _ _ (omega (arith, length-drop m t)) ∙ ap (λ (k : ℕ). drop k t) e ∙ drop_min off t in
+    ap (λ (k : ℕ). take k (take (length t - m) (drop m t))) f ∙ take_min len _ ∙ ap (take len) z
 
-  -- the part from off to the end, and the part from off to off + len, as code takes them
-  pub to_end_lem : length t - off ≤ len → take (length t - off) (drop off t) ≡ bytes_at t (record { off = off; len = len })
-  unfolding bytes_at
-  to_end_lem h = take_all (length t - off) (drop off t) (omega (arith, length-drop off t)) ∙ sym (take_all len (drop off t) (omega (arith, length-drop off t)))
-
-  pub part_at : take (off + len - off) (drop off t) ≡ bytes_at t (record { off = off; len = len })
-  unfolding bytes_at
-  part_at = let e : off + len - off ≡ len = omega arith in rw e
+-- A span within a text, as code takes it.
+pub part_at : (t : List ℕ) (off len : ℕ) → take (off + len - off) (drop off t) ≡ bytes_at t (record { off = off; len = len })
+unfolding bytes_at
+part_at t off len = let e : off + len - off ≡ len = omega arith in rw e

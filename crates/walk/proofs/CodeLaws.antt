@@ -12,15 +12,17 @@ use borrow.Author.Tests.{leb-true}
 use Rattle.definition.specs.Text.{str, place_in}
 use Rattle.definition.specs.Elements.{tag_of, key_of}
 use Rattle.definition.specs.Event as E
-use Rattle.definition.specs.Event.{Line, after, headed, line_of, kind_names}
+use Rattle.definition.specs.Event.{Line, after, headed, line_of, kind_names, legible}
+use Rattle.std.specs.Prelude as std
+use Rattle.lines.specs.Escapes as L
 use Rattle.definition.proofs.Base.{true_is_false, and_right}
 use Rattle.definition.proofs.Events.{after_split}
-use Rattle.lines.specs.declared.Scan.{Scan}
-use Rattle.lines.specs.Escapes.{scanned}
+use Rattle.walk.specs.Views.{Scan}
+use Rattle.walk.specs.Views.{measured, counted, scan_of}
 use Rattle.lines.specs.Lines.{has_head}
 use Rattle.parts.specs.declared.Part.{Part}
 use Rattle.parts.specs.Walked.{Walked}
-use Rattle.walk.specs.declared.Found.{Found}
+use Rattle.walk.specs.Views.{Found}
 use Rattle.parts.specs.Parts as P
 use Rattle.parts.specs.Parts.{part_at, with_kind, with_name, with_key, with_text, added_value}
 use Rattle.walk.specs.Walk.{AsWritten, fits, written, found, name_fits, key_fits, value_fits, text_fits, on_event, on_name, on_key, on_value}
@@ -98,27 +100,36 @@ module _ (l : List ℕ) (at : ℕ) (d : Walked) where
   unfolding on_value
   not_value e = line_of_lem (λ (x : Line). P.broken d ≡ on_value at x d) l (λ v f. never e f) (λ v f. refl) (λ v f. refl) (λ v f. refl) (λ v f. refl) refl
 
+-- A scan as code gives it.
+pub scan_is : (x : List ℕ) (o : std.Option ℕ) → o ≡ L.scanned x → scan_of o ≡ measured x
+unfolding measured counted L.scanned L.counted
+scan_is x o e = ap scan_of e ∙ go (legible x)
+  where
+    go : (q : Option (List ℕ)) → scan_of (L.counted 0 q) ≡ counted 0 q
+    go none = refl
+    go (some v) = refl
+
 -- ---- a line in form, and one whose part is not within its limits
 
 module _ (low high at : ℕ) (x : List ℕ) where
-  found_by : (p : Bool) → fits low high (scanned x) ≡ p → found low high at x ≡ elim p as (λ q. Found) [ true ↦ record { ok = true; part = written at x } | false ↦ record { ok = false; part = part_at 0 0 0 } ]
+  found_by : (p : Bool) → fits low high (measured x) ≡ p → found low high at x ≡ elim p as (λ q. Found) [ true ↦ record { ok = true; part = written at x } | false ↦ record { ok = false; part = part_at 0 0 0 } ]
   unfolding found
   found_by true e = rw (e, found)
   found_by false e = rw (e, found)
 
-  fits_found : (p : Bool) → (found low high at x).ok ≡ p → fits low high (scanned x) ≡ p
-  fits_found p e = go (fits low high (scanned x)) refl
+  fits_found : (p : Bool) → (found low high at x).ok ≡ p → fits low high (measured x) ≡ p
+  fits_found p e = go (fits low high (measured x)) refl
     where
-      go : (q : Bool) → fits low high (scanned x) ≡ q → q ≡ p
+      go : (q : Bool) → fits low high (measured x) ≡ q → q ≡ p
       go true f = sym (ap (λ (y : Found). y.ok) (found_by true f)) ∙ e
       go false f = sym (ap (λ (y : Found). y.ok) (found_by false f)) ∙ e
 
-  found_part : fits low high (scanned x) ≡ true → (found low high at x).part ≡ written at x
+  found_part : fits low high (measured x) ≡ true → (found low high at x).part ≡ written at x
   found_part e = ap (λ (y : Found). y.part) (found_by true e)
 
   -- As the code finds it.
-  module _ (top : ℕ) (s : Scan) (es : s ≡ scanned x) (et : top ≡ high) where
-    fits_is : (s.ok && leb low s.len && leb s.len top) ≡ fits low high (scanned x)
+  module _ (top : ℕ) (s : Scan) (es : s ≡ measured x) (et : top ≡ high) where
+    fits_is : (s.ok && leb low s.len && leb s.len top) ≡ fits low high (measured x)
     unfolding fits
     fits_is = ap₂ (λ (q : Scan) (t : ℕ). q.ok && leb low q.len && leb q.len t) es et
 
@@ -138,8 +149,8 @@ as_found high at x a = ap (λ (n : ℕ). record { ok = true; part = part_at at (
 
 -- What a line with a part makes, r, by whether the part is within its limits: `put` is what the part adds to d.
 module _ (low high at : ℕ) (x : List ℕ) (m : Found) (em : m ≡ found low high at x) (d r : Walked) (put : Part → Walked)
-    (by : (p : Bool) → fits low high (scanned x) ≡ p → r ≡ elim p as (λ q. Walked) [ true ↦ put (written at x) | false ↦ P.broken d ]) where
-  fits_by : (p : Bool) → m.ok ≡ p → fits low high (scanned x) ≡ p
+    (by : (p : Bool) → fits low high (measured x) ≡ p → r ≡ elim p as (λ q. Walked) [ true ↦ put (written at x) | false ↦ P.broken d ]) where
+  fits_by : (p : Bool) → m.ok ≡ p → fits low high (measured x) ≡ p
   fits_by p q = fits_found low high at x p (sym (ap (λ (y : Found). y.ok) em) ∙ q)
 
   part_good : m.ok ≡ true → put m.part ≡ r
@@ -150,7 +161,7 @@ module _ (low high at : ℕ) (x : List ℕ) (m : Found) (em : m ≡ found low hi
 
 module _ (l : List ℕ) (at : ℕ) (d : Walked) (x : List ℕ) (m : Found) where
   module _ (e : has_head (str "name=") l ≡ true) (ex : x ≡ drop 5 l) (em : m ≡ found 1 64 (at + 5) x) where
-    name_by : (p : Bool) → fits 1 64 (scanned x) ≡ p → on_name at (line_of l) d ≡ elim p as (λ q. Walked) [ true ↦ with_name (tag_of x) (written (at + 5) x) d | false ↦ P.broken d ]
+    name_by : (p : Bool) → fits 1 64 (measured x) ≡ p → on_name at (line_of l) d ≡ elim p as (λ q. Walked) [ true ↦ with_name (tag_of x) (written (at + 5) x) d | false ↦ P.broken d ]
     unfolding on_name name_fits
     name_by p z = ap (λ (y : Line). on_name at y d) (as_name l e ∙ ap E.name (sym ex)) ∙ go p z
       where
@@ -165,7 +176,7 @@ module _ (l : List ℕ) (at : ℕ) (d : Walked) (x : List ℕ) (m : Found) where
     name_bad t = part_bad 1 64 (at + 5) x m em d (on_name at (line_of l) d) (λ (y : Part). with_name (tag_of x) y d) name_by t
 
   module _ (e : has_head (str "text=") l ≡ true) (ex : x ≡ drop 5 l) (em : m ≡ found 0 4096 (at + 5) x) where
-    text_by : (p : Bool) → fits 0 4096 (scanned x) ≡ p → on_key at (line_of l) d ≡ elim p as (λ q. Walked) [ true ↦ with_text (written (at + 5) x) d | false ↦ P.broken d ]
+    text_by : (p : Bool) → fits 0 4096 (measured x) ≡ p → on_key at (line_of l) d ≡ elim p as (λ q. Walked) [ true ↦ with_text (written (at + 5) x) d | false ↦ P.broken d ]
     unfolding on_key text_fits
     text_by p z = ap (λ (y : Line). on_key at y d) (as_text l e ∙ ap E.text (sym ex)) ∙ go p z
       where
@@ -180,7 +191,7 @@ module _ (l : List ℕ) (at : ℕ) (d : Walked) (x : List ℕ) (m : Found) where
     text_bad t = part_bad 0 4096 (at + 5) x m em d (on_key at (line_of l) d) (λ (y : Part). with_text y d) text_by t
 
   module _ (e : has_head (str "key=") l ≡ true) (ex : x ≡ drop 4 l) (em : m ≡ found 1 64 (at + 4) x) where
-    key_by : (p : Bool) → fits 1 64 (scanned x) ≡ p → on_key at (line_of l) d ≡ elim p as (λ q. Walked) [ true ↦ with_key (key_of x) (written (at + 4) x) d | false ↦ P.broken d ]
+    key_by : (p : Bool) → fits 1 64 (measured x) ≡ p → on_key at (line_of l) d ≡ elim p as (λ q. Walked) [ true ↦ with_key (key_of x) (written (at + 4) x) d | false ↦ P.broken d ]
     unfolding on_key key_fits
     key_by p z = ap (λ (y : Line). on_key at y d) (as_key l e ∙ ap E.key (sym ex)) ∙ go p z
       where
@@ -195,7 +206,7 @@ module _ (l : List ℕ) (at : ℕ) (d : Walked) (x : List ℕ) (m : Found) where
     key_bad t = part_bad 1 64 (at + 4) x m em d (on_key at (line_of l) d) (λ (y : Part). with_key (key_of x) y d) key_by t
 
   module _ (e : has_head (str "value=") l ≡ true) (ex : x ≡ drop 6 l) (em : m ≡ found 0 1024 (at + 6) x) where
-    value_by : (p : Bool) → fits 0 1024 (scanned x) ≡ p → on_value at (line_of l) d ≡ elim p as (λ q. Walked) [ true ↦ added_value (written (at + 6) x) d | false ↦ P.broken d ]
+    value_by : (p : Bool) → fits 0 1024 (measured x) ≡ p → on_value at (line_of l) d ≡ elim p as (λ q. Walked) [ true ↦ added_value (written (at + 6) x) d | false ↦ P.broken d ]
     unfolding on_value value_fits
     value_by p z = ap (λ (y : Line). on_value at y d) (as_value l e ∙ ap E.value (sym ex)) ∙ go p z
       where

@@ -9,3 +9,4 @@ pub mod LoopLaws
 pub mod StreamLaws
 pub mod StepLaws
 pub mod SecondEvent
+pub mod Known

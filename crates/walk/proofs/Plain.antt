@@ -1,4 +1,4 @@
--- Names of elements and keys have 1 to 64 bytes and none that is escaped, so a number can be read off the bytes as they are written, and what has one need not be scanned.
+-- Names of elements and keys have 1 to 64 bytes and none that is escaped, so a number can be read off the bytes as they are written, and what has one need not be measured.
 use Prim.Native.Nat.{ℕ, suc, ◌+◌, ◌<◌}
 use mathlib.Core.Path.{◌≡◌, refl, sym, ap, ◌∙◌, subst}
 use mathlib.Core.Bool.{Bool, true, false, ◌&&◌, not}
@@ -11,8 +11,8 @@ use borrow.Author.Tests.{ltb-true}
 use Rattle.definition.specs.Text.{same, place_in, is_allowed, all_allowed}
 use Rattle.definition.specs.Elements.{element_names, key_names, number_in, tag_of, key_of}
 use Rattle.definition.specs.Event.{legible, unescape_from, prepend, if_allowed}
-use Rattle.lines.specs.declared.Scan.{Scan}
-use Rattle.lines.specs.Escapes.{scanned, counted}
+use Rattle.walk.specs.Views.{Scan}
+use Rattle.walk.specs.Views.{measured, counted}
 use Rattle.walk.specs.Walk.{fits, AsWritten}
 use Rattle.definition.proofs.Base.{true_is_false, none_is_some, some_inj, and_left, and_right, bool_ext, same_refl, same_eq, not_of}
 use Rattle.definition.proofs.Events.{allowed_same}
@@ -153,13 +153,13 @@ module _ (v x : List ℕ) (e : legible v ≡ some x) where
   unfolding key_of
   key_plain = number_plain key_names keys_brief
 
--- ---- what has a number need not be scanned
+-- ---- what has a number need not be measured
 
 as_written : (w : List ℕ) → is_brief w ≡ true → AsWritten 64 w
-unfolding is_brief fits scanned counted
+unfolding is_brief fits measured counted
 as_written w e =
     let n : 0 + length w ≡ length w = omega arith in
-    let z : scanned w ≡ record { ok = true; len = length w } = ap (counted 0) (legible_plain w (brief_plain w e)) ∙ ap (λ (k : ℕ). record { ok = true; len = k }) n in
+    let z : measured w ≡ record { ok = true; len = length w } = ap (counted 0) (legible_plain w (brief_plain w e)) ∙ ap (λ (k : ℕ). record { ok = true; len = k }) n in
     record {
       within = ap (fits 1 64) z ∙ ap (λ (p : Bool). p && leb 1 (length w) && leb (length w) 64) (sym (brief_plain w e)) ∙ e;
       long = ap (λ (s : Scan). s.len) z;

@@ -1,5 +1,5 @@
 -- The walk line by line, as the code takes them.
-use Prim.Native.Nat.{ℕ, ◌+◌, ◌^◌, ◌≤◌, ◌<◌}
+use Prim.Native.Nat.{ℕ, ◌+◌, ◌≤◌, ◌<◌}
 use mathlib.Core.Path.{◌≡◌, refl, sym, ap, ◌∙◌, subst}
 use mathlib.Core.Bool.{Bool, true, false, ◌||◌}
 use mathlib.Core.List.{List}
@@ -7,20 +7,18 @@ use native.Mathlib.Omega.{arith}
 use lib.Dec.{leb}
 use lib.ListN.{length, drop, set}
 use Rattle.definition.specs.Text.{str}
-use Rattle.definition.specs.Elements.{key_names, key_of}
-use Rattle.definition.specs.Event as E
 use Rattle.definition.specs.Event.{Line, line_of}
-use Rattle.definition.proofs.Base.{true_is_false, number_small}
+use Rattle.definition.proofs.Base.{true_is_false}
 use Rattle.lines.specs.Lines.{has_head, event_length}
 use Rattle.lines.specs.Blocks.{all, is_within_line}
 use Rattle.parts.specs.declared.Part.{Part}
-use Rattle.parts.specs.declared.Pair.{Pair}
+use Rattle.parts.specs.Walked.{Pair}
 use Rattle.parts.specs.Walked.{Walked}
 use Rattle.parts.specs.Parts.{part_at, no_pairs, begun, broken, with_kind, with_name, with_key, with_value, with_text, added_value}
 use Rattle.parts.proofs.CodeLaws.{value_full, value_added}
-use Rattle.walk.specs.declared.Lined.{Lined}
-use Rattle.walk.specs.declared.Last.{Last}
-use Rattle.walk.specs.Walk.{key_fits, text_fits, on_event, on_name, on_key, on_value, step, walked}
+use Rattle.walk.specs.Views.{Lined}
+use Rattle.walk.specs.Views.{Last}
+use Rattle.walk.specs.Walk.{on_event, on_name, on_key, on_value, step, walked}
 use Rattle.walk.specs.Stream.{first_event, settled, line_in, Takes, Reached, made, closed, Ends, Closes}
 use Rattle.walk.proofs.CodeLaws.{not_key}
 use Rattle.walk.proofs.LineIn.{line_head}
@@ -61,25 +59,6 @@ module _ (s : List ℕ) (e : Lined) (t : Takes s 0 on_event (with_kind e.code) e
         reached_goes s e.next (with_kind e.code begun) named (on_name e.next) (with_name n.code n.part) n.next (u.good q) (λ l. refl),
       )
 
--- ---- a key's number is small
-
-code_below : (at : ℕ) (l : Line) → (on_key at l begun).code ≤ 28
-unfolding on_key begun broken with_key with_text key_of key_names
-code_below at (E.event k) = omega arith
-code_below at (E.name n) = omega arith
-code_below at (E.key k) = go (key_fits k) refl
-  where
-    go : (p : Bool) → key_fits k ≡ p → (on_key at (E.key k) begun).code ≤ 28
-    go true q = rw (q, on_key) (number_small key_names k)
-    go false q = rw (q, on_key) (omega arith)
-code_below at (E.value v) = omega arith
-code_below at (E.text v) = go (text_fits v) refl
-  where
-    go : (p : Bool) → text_fits v ≡ p → (on_key at (E.text v) begun).code ≤ 28
-    go true q = rw (q, on_key) (omega arith)
-    go false q = rw (q, on_key) (omega arith)
-code_below at E.junk = omega arith
-
 -- ---- a pair
 
 module _ (s : List ℕ) (at : ℕ) (kind tag : ℕ) (name : Part) (count : ℕ) (ps : List Pair) (re : Reached s at (made kind tag name count ps))
@@ -101,11 +80,6 @@ module _ (s : List ℕ) (at : ℕ) (kind tag : ℕ) (name : Part) (count : ℕ) 
 
     pub key_within : k.next ≤ length s
     key_within = key_reached.within
-
-    -- Any event before the key will do, so the one that is begun.
-    pub code_small : k.code < 2 ^ 16
-    unfolding with_key
-    code_small = omega (arith, code_below at (line_of (line_in s at)), ap (λ (w : Walked). w.code) ((t.good o).does begun))
 
     module _ (v : Lined) (u : Takes s k.next (on_value k.next) (added_value v.part) v) where
       pub value_lost : v.ok ≡ false → Lost s

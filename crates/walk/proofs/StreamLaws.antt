@@ -13,11 +13,12 @@ use Rattle.definition.specs.Text.{str}
 use Rattle.definition.specs.Event.{Line, line_of, lines_from, tail_from, is_nil, begins_event}
 use Rattle.lines.specs.Lines.{line_length, has_head, rest_length, event_length}
 use Rattle.lines.proofs.LineLaws.{rest_event, rest_begun, rest_on, rest_after, line_ended_at, event_line}
-use Rattle.parts.specs.declared.Part.{Part}
-use Rattle.parts.specs.declared.Pair.{Pair}
+use Rattle.std.proofs.Common.{None}
+use Rattle.parts.specs.declared.Pair as code
+use Rattle.parts.specs.Walked.{Pair}
 use Rattle.parts.specs.Walked.{Walked}
 use Rattle.parts.specs.Parts.{part_at, no_pairs, begun, broken, pairs_of, walked_by}
-use Rattle.walk.specs.declared.Lined.{Lined}
+use Rattle.walk.specs.Views.{Lined}
 use Rattle.walk.specs.Walk.{placed_lines, step, walk, walked_lines, walked}
 use Rattle.walk.specs.Stream.{first_event, settled, end_of, line_in, InForm, Takes, Left, Reached}
 use Rattle.walk.proofs.WalkLaw.{Stopped, stopped, walk_stays}
@@ -246,7 +247,9 @@ pub reached_start : (s : List ℕ) → Reached s 0 begun
 reached_start s = record { left = left_start (first_event s) begun refl; within = omega arith; short = omega arith; on = omega (arith, rest_event s) }
 
 -- As the code writes an event out of form.
-pub out_is : (p : Part) (rs : List (List ℕ)) → p ≡ part_at 0 0 0 → pairs_of rs ≡ no_pairs → walked_by (record { next = 5; kind = 0; tag = 0; name = p; count = 0; text = p }) rs ≡ broken begun
+
+-- Without a heading, and no attributes beside it, the event is out of form.
+pub out_is : (ps : List code.Pair) → pairs_of ps ≡ no_pairs → walked_by None ps ≡ broken begun
 unfolding walked_by broken begun
-out_is p rs ep er =
-    ap₂ (λ (q : Part) (ps : List Pair). record { next = 5; kind = 0; tag = 0; name = q; code = 0; key = part_at 0 0 0; count = 0; pairs = ps; text = q }) ep er
+out_is ps e =
+    ap (λ (qs : List Pair). record { next = 5; kind = 0; tag = 0; name = part_at 0 0 0; code = 0; key = part_at 0 0 0; count = 0; pairs = qs; text = part_at 0 0 0 }) e

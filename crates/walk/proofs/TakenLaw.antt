@@ -14,7 +14,7 @@ use Rattle.definition.specs.Event as E
 use Rattle.definition.specs.Event.{Body, Event, lines_from, tail_from, is_nil, lines_of, legible, body_of, event_with, named_event, event_of_lines, kind_names, read_event, between}
 use Rattle.definition.proofs.Base.{none_is_some}
 use Rattle.definition.proofs.Events.{with_split}
-use Rattle.lines.specs.Escapes.{scanned}
+use Rattle.walk.specs.Views.{measured}
 use Rattle.parts.specs.declared.Part.{Part}
 use Rattle.parts.specs.Walked.{Walked}
 use Rattle.parts.specs.Parts.{begun, broken, with_kind, with_name}
@@ -25,7 +25,7 @@ use Rattle.walk.specs.Reads.{Reads, Pairs, no_pairs_lem}
 use Rattle.walk.proofs.WalkLaw.{Fits, yes, no, fits_of, TextReads, Fitting, Stopped, Went, good, bad, Before, walk_at, walk_at_lem, walk_stays, stopped, body}
 
 name_limits : (n : List ℕ) → Fits 1 64 (legible n) (name_fits n)
-unfolding name_fits scanned
+unfolding name_fits measured
 name_limits n = fits_of 1 64 (legible n)
 
 -- d carries the event e, written in raw.
@@ -54,7 +54,7 @@ module _ (raw : List ℕ) where
   -- The first two lines are there.
   named : (k : ℕ) (at : ℕ) (n : List ℕ) (ls : List Placed) → Stands raw at (E.name n) → AllStand raw ls
       → Taken raw (walk ls (on_name at (E.name n) (with_kind k begun))) (event_with k (legible n) (body_of none (map decoded ls)))
-  unfolding Stands on_name with_name with_kind broken begun written scanned event_with
+  unfolding Stands on_name with_name with_kind broken begun written measured event_with
   named k at n ls sn s = go (name_fits n) refl (name_limits n)
     where
       o : Option Body
@@ -69,7 +69,7 @@ module _ (raw : List ℕ) where
       before : Before raw d []
       before = record { count = refl; room = omega arith; size = refl; pairs = no_pairs_lem }
 
-      from : (x : List ℕ) → legible n ≡ some x → between 1 64 x ≡ true → (scanned n).len ≡ length x → (w : Walked) → Went raw d w [] o → Taken raw w (event_with k (legible n) o)
+      from : (x : List ℕ) → legible n ≡ some x → between 1 64 x ≡ true → (measured n).len ≡ length x → (w : Walked) → Went raw d w [] o → Taken raw w (event_with k (legible n) o)
       from x ex bx lx w (good b e f kept count pairs text) =
           whole (record { kind = k; name = x; attributes = b.attributes; text = b.text }) (rw (ex, e) refl) (record { name = bx; rest = f })
           (record {

@@ -18,10 +18,10 @@ use Rattle.lines.specs.Parts.{part}
 use Rattle.lines.specs.declared.Tail.{Tail}
 use Rattle.parts.specs.Walked.{Walked}
 use Rattle.parts.specs.Parts.{broken, with_kind, with_name, with_key, with_text, added_value}
-use Rattle.walk.specs.declared.Found.{Found}
-use Rattle.walk.specs.declared.Lined.{Lined}
+use Rattle.walk.specs.Views.{Found}
+use Rattle.walk.specs.Views.{Lined}
 use Rattle.walk.specs.Walk.{found, on_event, on_name, on_key, on_value}
-use Rattle.walk.specs.Stream.{Takes, end_of, line_in}
+use Rattle.walk.specs.Stream.{Takes, InForm, end_of, line_in}
 use Rattle.walk.proofs.CodeLaws as C
 use Rattle.walk.proofs.LineIn.{line_head, behind_end, behind_rest, other_head}
 
@@ -57,23 +57,24 @@ module _ (s : List ℕ) (at : ℕ) (f : Line → Walked → Walked) where
       let z : is_ended s end ≡ true = (and-eq-true_iff (ltb end (length s)) (ltb end 49152)).1 (lt-ltb end (length s) (omega (arith, ee, p)), lt-ltb end 49152 (omega (arith, ee, q))) in
       true_is_false (sym z ∙ t))
 
-  takes_found : (g : Lined → Walked → Walked) (m : Found) (code end : ℕ) (r : Lined) → r ≡ lined_as m code end → end ≡ end_of s at → is_ended s end ≡ true
+  takes_found : (g : Lined → Walked → Walked) (m : Found) (code end : ℕ) (r : Lined) → r.ok ≡ m.ok → (m.ok ≡ true → r ≡ lined_as m code end) → end ≡ end_of s at → is_ended s end ≡ true
       → (0 < at → has_head (str "event=") (drop at s) ≡ false) → (m.ok ≡ true → (d : Walked) → f (line_of (line_in s at)) d ≡ g (lined_as m code end) d)
       → (m.ok ≡ false → (d : Walked) → f (line_of (line_in s at)) d ≡ broken d) → Takes s at f (g r) r
-  takes_found g m code end r er ee t own y n =
+  takes_found g m code end r ok er ee t own y n =
       let k = ended_bounds s end t in
-      subst (λ (x : Lined). Takes s at f (g x) x) (sym er)
-      (record {
+      record {
         good = λ o.
-            record {
+            let q : m.ok ≡ true = sym ok ∙ o in
+            subst (λ (x : Lined). InForm s at f (g x) x.next) (sym (er q))
+            (record {
               next = ap (λ (i : ℕ). i + 1) ee;
               ended = omega (arith, ee, k.0);
               short = omega (arith, ee, k.1);
               own = own;
-              does = y o;
-            };
-        bad = λ o p q. n o;
-      })
+              does = y q;
+            });
+        bad = λ o p q. n (sym ok ∙ o);
+      }
 
 module _ (s : List ℕ) where
   module _ (r : Lined) (o : r.ok ≡ false) where
@@ -96,21 +97,21 @@ module _ (s : List ℕ) where
       head_open f g h w e end ee t = takes_open s at f g r o end (behind_end h w s at e end ee) t
 
   pub event_takes : (x : List ℕ) (m : Found) (k end : ℕ) (r : Lined) → has_head (str "event=") (drop 0 s) ≡ true → end ≡ 0 + 6 + line_length (drop (0 + 6) s) → is_ended s end ≡ true
-      → x ≡ take (end - (0 + 6)) (drop (0 + 6) s) → m.ok ≡ true → k ≡ place_in kind_names x → r ≡ lined_as m k end → Takes s 0 on_event (with_kind r.code) r
+      → x ≡ take (end - (0 + 6)) (drop (0 + 6) s) → m.ok ≡ true → k ≡ place_in kind_names x → r.ok ≡ m.ok → (m.ok ≡ true → r ≡ lined_as m k end) → Takes s 0 on_event (with_kind r.code) r
   unfolding str all is_within_line
-  event_takes x m k end r e ee t ex em ek er =
-      takes_found s 0 on_event (λ (y : Lined). with_kind y.code) m k end r er (behind_end (str "event=") refl s 0 e end ee) t (λ z. absurd (omega arith))
+  event_takes x m k end r e ee t ex em ek ok er =
+      takes_found s 0 on_event (λ (y : Lined). with_kind y.code) m k end r ok er (behind_end (str "event=") refl s 0 e end ee) t (λ z. absurd (omega arith))
       (λ o d. sym (C.event_good (line_in s 0) d x k (line_head (str "event=") refl s 0 e) (behind_rest (str "event=") refl s 0 e end ee x ex) ek))
       (λ o. true_is_false (sym em ∙ o))
 
-  module _ (at : ℕ) (x : List ℕ) (m : Found) (c end : ℕ) (r : Lined) (t : is_ended s end ≡ true) (er : r ≡ lined_as m c end) where
+  module _ (at : ℕ) (x : List ℕ) (m : Found) (c end : ℕ) (r : Lined) (t : is_ended s end ≡ true) (ok : r.ok ≡ m.ok) (er : m.ok ≡ true → r ≡ lined_as m c end) where
     pub name_takes : has_head (str "name=") (drop at s) ≡ true → end ≡ at + 5 + line_length (drop (at + 5) s)
         → x ≡ take (end - (at + 5)) (drop (at + 5) s) → c ≡ tag_of x → m ≡ found 1 64 (at + 5) x → Takes s at (on_name at) (with_name r.code r.part) r
     unfolding str all is_within_line
     name_takes e ee ex ec em =
         let l = line_head (str "name=") refl s at e in
         let z = behind_rest (str "name=") refl s at e end ee x ex in
-        takes_found s at (on_name at) (λ (y : Lined). with_name y.code y.part) m c end r er (behind_end (str "name=") refl s at e end ee) t
+        takes_found s at (on_name at) (λ (y : Lined). with_name y.code y.part) m c end r ok er (behind_end (str "name=") refl s at e end ee) t
         (λ p. other_head 110 101 _ _ (drop at s) refl e)
         (λ o d. sym (C.name_good (line_in s at) at d x m l z em c ec o))
         (λ o d. sym (C.name_bad (line_in s at) at d x m l z em o))
@@ -121,7 +122,7 @@ module _ (s : List ℕ) where
     key_takes e ee ex ec em =
         let l = line_head (str "key=") refl s at e in
         let z = behind_rest (str "key=") refl s at e end ee x ex in
-        takes_found s at (on_key at) (λ (y : Lined). with_key y.code y.part) m c end r er (behind_end (str "key=") refl s at e end ee) t
+        takes_found s at (on_key at) (λ (y : Lined). with_key y.code y.part) m c end r ok er (behind_end (str "key=") refl s at e end ee) t
         (λ p. other_head 107 101 _ _ (drop at s) refl e)
         (λ o d. sym (C.key_good (line_in s at) at d x m l z em c ec o))
         (λ o d. sym (C.key_bad (line_in s at) at d x m l z em o))
@@ -132,7 +133,7 @@ module _ (s : List ℕ) where
     value_takes e ee ex em =
         let l = line_head (str "value=") refl s at e in
         let z = behind_rest (str "value=") refl s at e end ee x ex in
-        takes_found s at (on_value at) (λ (y : Lined). added_value y.part) m c end r er (behind_end (str "value=") refl s at e end ee) t
+        takes_found s at (on_value at) (λ (y : Lined). added_value y.part) m c end r ok er (behind_end (str "value=") refl s at e end ee) t
         (λ p. other_head 118 101 _ _ (drop at s) refl e)
         (λ o d. sym (C.value_good (line_in s at) at d x m l z em o))
         (λ o d. sym (C.value_bad (line_in s at) at d x m l z em o))
@@ -143,7 +144,7 @@ module _ (s : List ℕ) where
     text_takes e ee ex em =
         let l = line_head (str "text=") refl s at e in
         let z = behind_rest (str "text=") refl s at e end ee x ex in
-        takes_found s at (on_key at) (λ (y : Lined). with_text y.part) m c end r er (behind_end (str "text=") refl s at e end ee) t
+        takes_found s at (on_key at) (λ (y : Lined). with_text y.part) m c end r ok er (behind_end (str "text=") refl s at e end ee) t
         (λ p. other_head 116 101 _ _ (drop at s) refl e)
         (λ o d. sym (C.text_good (line_in s at) at d x m l z em o))
         (λ o d. sym (C.text_bad (line_in s at) at d x m l z em o))

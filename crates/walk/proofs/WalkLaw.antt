@@ -14,10 +14,10 @@ use Rattle.definition.specs.Elements.{key_of}
 use Rattle.definition.specs.Event as E
 use Rattle.definition.specs.Event.{Line, Attribute, Body, legible, with_pair, last_text, body_of, between, attributes_fit, text_fits}
 use Rattle.definition.proofs.Base.{true_is_false, none_is_some, some_inj, and_left, and_right}
-use Rattle.lines.specs.Escapes.{counted, scanned}
+use Rattle.walk.specs.Views.{counted, measured}
 use Rattle.lines.specs.Parts.{part}
 use Rattle.parts.specs.declared.Part.{Part}
-use Rattle.parts.specs.declared.Pair.{Pair}
+use Rattle.parts.specs.Walked.{Pair}
 use Rattle.parts.specs.Walked.{Walked}
 use Rattle.walk.specs.Walk as W
 use Rattle.parts.specs.Parts.{broken, with_key, with_value, with_text, added_value, room_left}
@@ -49,15 +49,15 @@ fits_of low high (some x) = go (between low high x) refl
 
 -- Document 01's limits.
 key_limits : (k : List ℕ) → Fits 1 64 (legible k) (key_fits k)
-unfolding key_fits scanned
+unfolding key_fits measured
 key_limits k = fits_of 1 64 (legible k)
 
 value_limits : (v : List ℕ) → Fits 0 1024 (legible v) (value_fits v)
-unfolding value_fits scanned
+unfolding value_fits measured
 value_limits v = fits_of 0 1024 (legible v)
 
 text_limits : (v : List ℕ) → Fits 0 4096 (legible v) (W.text_fits v)
-unfolding W.text_fits scanned
+unfolding W.text_fits measured
 text_limits v = fits_of 0 4096 (legible v)
 
 room_in : (n : ℕ) → room_left n ≡ true → n < 16
@@ -251,7 +251,7 @@ module _ (raw : List ℕ) (d : Walked) (ats : List Attribute) (before : Before r
   abbrev paired : Walked
   paired = with_value value_part keyed
 
-  module _ (x y : List ℕ) (ek : legible k ≡ some x) (ev : legible v ≡ some y) (lk : (scanned k).len ≡ length x) (lv : (scanned v).len ≡ length y)
+  module _ (x y : List ℕ) (ek : legible k ≡ some x) (ev : legible v ≡ some y) (lk : (measured k).len ≡ length x) (lv : (measured v).len ≡ length y)
       (sk : part raw (at + 4) (length k) ≡ k) (sv : part raw (at₂ + 6) (length v) ≡ v) (room : d.count < 16) where
     pair_reads : PairReads raw (record { code = key_of k; key = key_part; value = value_part }) (attribute x y)
     unfolding written
@@ -292,7 +292,7 @@ module _ (raw : List ℕ) (d : Walked) (ats : List Attribute) (before : Before r
   pair_case : (ls : List Placed) → Stands raw at (E.key k) → Stands raw at₂ (E.value v)
       → ((c : Walked) (bts : List Attribute) → c.next ≡ 2 → Before raw c bts → Went raw c (walk_at 2 ls c) bts (body_of none (map decoded ls)))
       → Went raw d (walk ls (step (on_key at (E.key k) d).next at₂ (E.value v) (on_key at (E.key k) d))) ats (with_pair (legible k) (legible v) (body_of none (map decoded ls)))
-  unfolding Stands on_key on_value added_value with_key with_value broken step scanned
+  unfolding Stands on_key on_value added_value with_key with_value broken step measured
   pair_case ls sk sv ih = by_key_lem (key_fits k) refl (key_limits k)
     where
       after : Walked
@@ -304,7 +304,7 @@ module _ (raw : List ℕ) (d : Walked) (ats : List Attribute) (before : Before r
       out : (w : Walked) → w.next ≡ 5 → (PairNeeds k v (body_of none (map decoded ls)) (length ats) → ⊥) → Goal (walk ls w)
       out w e f = bad (stopped (walk ls w) (walk_stays ls w e)) (λ b g h. f (pair_needs k v (body_of none (map decoded ls)) (length ats) b g h))
 
-      by_value : (x : List ℕ) → legible k ≡ some x → between 1 64 x ≡ true → (scanned k).len ≡ length x → (p r : Bool) → value_fits v ≡ p → room_left d.count ≡ r → Fits 0 1024 (legible v) p
+      by_value : (x : List ℕ) → legible k ≡ some x → between 1 64 x ≡ true → (measured k).len ≡ length x → (p r : Bool) → value_fits v ≡ p → room_left d.count ≡ r → Fits 0 1024 (legible v) p
           → Goal (walk ls (on_value at₂ (E.value v) keyed))
       by_value x ek bk lk true true q t (yes y ev bv lv) =
           let w : on_value at₂ (E.value v) keyed ≡ paired = rw (q, on_value, t, added_value) in
@@ -341,7 +341,7 @@ module _ (raw : List ℕ) where
 
   -- A text, and no line after it.
   text_case : (d : Walked) (ats : List Attribute) → Before raw d ats → (at : ℕ) (v : List ℕ) → Stands raw at (E.text v) → Went raw d (on_key at (E.text v) d) ats (last_text (legible v) [])
-  unfolding Stands on_key with_text broken scanned last_text attributes_fit text_fits
+  unfolding Stands on_key with_text broken measured last_text attributes_fit text_fits
   text_case d ats before at v s = go (W.text_fits v) refl (text_limits v)
     where
       go : (p : Bool) → W.text_fits v ≡ p → Fits 0 4096 (legible v) p → Went raw d (on_key at (E.text v) d) ats (last_text (legible v) [])

@@ -1,3 +1,4 @@
+pub mod Views
 pub mod Walk
 pub mod Reads
 pub mod Stream

@@ -5,7 +5,7 @@ use Rattle.definition.specs.Elements.{key_of}
 use Rattle.definition.specs.Event.{Attribute, legible}
 use Rattle.lines.specs.Parts.{part}
 use Rattle.parts.specs.declared.Part.{Part}
-use Rattle.parts.specs.declared.Pair.{Pair}
+use Rattle.parts.specs.Walked.{Pair}
 
 -- What stands there is v, unescaped, and its length is told.
 pub record Reads (raw : List ℕ) (p : Part) (v : List ℕ) : Type 0 where

@@ -4,11 +4,11 @@ use Rattle.definition.specs.Text.{str}
 use Rattle.definition.specs.Event.{Line, line_of, lines_from, tail_from}
 use Rattle.lines.specs.Lines.{line_length, has_head, rest_length, event_length}
 use Rattle.parts.specs.declared.Part.{Part}
-use Rattle.parts.specs.declared.Pair.{Pair}
+use Rattle.parts.specs.Walked.{Pair}
 use Rattle.parts.specs.Walked.{Walked}
 use Rattle.parts.specs.Parts.{part_at, begun, broken}
-use Rattle.walk.specs.declared.Lined.{Lined}
-use Rattle.walk.specs.declared.Last.{Last}
+use Rattle.walk.specs.Views.{Lined}
+use Rattle.walk.specs.Views.{Last}
 use Rattle.walk.specs.Walk.{placed_lines, walk, walked}
 
 abbrev pub first_event : List ℕ → List ℕ

@@ -5,12 +5,12 @@ use Rattle.definition.specs.Text.{place_in}
 use Rattle.definition.specs.Elements.{tag_of, key_of}
 use Rattle.definition.specs.Event as E
 use Rattle.definition.specs.Event.{Line, line_of, lines_from, tail_from, is_nil, kind_names}
-use Rattle.lines.specs.declared.Scan.{Scan}
-use Rattle.lines.specs.Escapes.{scanned}
+use Rattle.walk.specs.Views.{Scan}
+use Rattle.walk.specs.Views.{measured}
 use Rattle.parts.specs.declared.Part.{Part}
 use Rattle.parts.specs.Walked.{Walked}
 use Rattle.parts.specs.Parts.{part_at, begun, broken, with_kind, with_name, with_key, with_text, added_value}
-use Rattle.walk.specs.declared.Found.{Found}
+use Rattle.walk.specs.Views.{Found}
 
 -- A decoded line and where it begins.
 pub data Placed : Type 0 where
@@ -20,44 +20,44 @@ unfoldable pub placed_lines : ℕ → List (List ℕ) → List Placed
 placed_lines at [] = []
 placed_lines at (l ∷ ls) = line at (line_of l) ∷ placed_lines (at + suc (length l)) ls
 
--- Whether what was scanned is legible and of a length within the limits.
+-- Whether what was measured is legible and of a length within the limits.
 unfoldable pub fits : ℕ → ℕ → Scan → Bool
 fits low high s = s.ok && leb low s.len && leb s.len high
 
 -- What is written at a place, measured.
 unfoldable pub written : ℕ → List ℕ → Part
-unfolding scanned
-written at x = part_at at (length x) (scanned x).len
+unfolding measured
+written at x = part_at at (length x) (measured x).len
 
 unfoldable pub found : ℕ → ℕ → ℕ → List ℕ → Found
-unfolding fits scanned written
+unfolding fits measured written
 found low high at x =
-    elim (fits low high (scanned x)) [
+    elim (fits low high (measured x)) [
       | true ↦ record { ok = true; part = written at x }
       | false ↦ record { ok = false; part = part_at 0 0 0 }
     ]
 
 -- A part of 1 to `high` bytes without an escape.
 pub record AsWritten (high : ℕ) (x : List ℕ) : Type 0 where
-  pub within : fits 1 high (scanned x) ≡ true
-  pub long : (scanned x).len ≡ length x
+  pub within : fits 1 high (measured x) ≡ true
+  pub long : (measured x).len ≡ length x
 
 -- Parts within their limits: "element name 1 to 64 bytes", "key 1 to 64; value 1,024; text 4,096".
 unfoldable pub name_fits : List ℕ → Bool
-unfolding fits scanned
-name_fits n = fits 1 limits01.name (scanned n)
+unfolding fits measured
+name_fits n = fits 1 limits01.name (measured n)
 
 unfoldable pub key_fits : List ℕ → Bool
-unfolding fits scanned
-key_fits k = fits 1 limits01.key (scanned k)
+unfolding fits measured
+key_fits k = fits 1 limits01.key (measured k)
 
 unfoldable pub value_fits : List ℕ → Bool
-unfolding fits scanned
-value_fits v = fits 0 limits01.value (scanned v)
+unfolding fits measured
+value_fits v = fits 0 limits01.value (measured v)
 
 unfoldable pub text_fits : List ℕ → Bool
-unfolding fits scanned
-text_fits v = fits 0 limits01.text (scanned v)
+unfolding fits measured
+text_fits v = fits 0 limits01.text (measured v)
 
 -- ---- a step: one line more
 

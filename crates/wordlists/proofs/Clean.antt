@@ -12,9 +12,9 @@ use Rattle.definition.specs.Shapes.{word, Filling, shape_at, shapes_in, shapes_b
 use Rattle.definition.specs.Look.{Look, span_of, shift}
 use Rattle.definition.specs.Change.{field_in, field_words, cell_of, filled_by}
 use Rattle.definition.specs.Reader.{over}
-use Rattle.words.specs.Next.{parted_by}
 use Rattle.plan.specs.After.{member_row, member_rows, word_row, word_rows, targets_after}
 use Rattle.plan.proofs.Over.{over_start, over_add}
+use Rattle.words.specs.Next.{parted_by}
 use Rattle.wordlists.specs.Words.{set_all, kept, kept_cell, list_cells, word_member, word_members}
 
 -- Rows one after another.

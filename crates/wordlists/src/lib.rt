@@ -10,33 +10,33 @@ ghost use Rattle.wordlists.specs.Words.{set_all, kept, list_cells, word_member, 
 use definition::codes::{Key, Tag};
 use fill::TextCell;
 use plan::MemberPlan;
-use rows::{index, text_from};
-use tables::put_8;
+use rows::{put, text_from};
 use texts::key_cell;
 use words::{Word, next_event_word, next_state_word, stripped_len};
 
+#[tactic(auto, using(crate::proofs::Laws::next_events, crate::proofs::Laws::next_states))]
 fn next_in(v: &[u8], at: usize, events: bool) -> Word
     ensures { result ≡ next_word (parted_by events) v.now at }
 {
     if events {
-        return next_event_word(v, at);
+        next_event_word(v, at)
+    } else {
+        next_state_word(v, at)
     }
-    next_state_word(v, at)
 }
 
+#[tactic(auto, using(crate::proofs::Laws::kept_events, crate::proofs::Laws::kept_states))]
 fn kept_len(w: &[u8], events: bool) -> usize
     ensures { result ≡ length (kept events w.now) }
 {
-    if events {
-        return stripped_len(w);
-    }
-    w.len()
+    if events { stripped_len(w) } else { w.len() }
 }
 
-fn word_row(kind: u32, owner: u32, at: u32, len: u32) -> [u32; 8]
-    ensures { result ≡ word_member kind owner (record { at = at; len = len }) }
+#[tactic(auto, unfolding(crate::specs::Words::word_member, fill::specs::Fill::as_cell, fill::specs::Fill::cell))]
+fn word_row(p: MemberPlan, word: TextCell) -> [u32; 8]
+    ensures { result ≡ word_member p.list p.owner (as_cell word) }
 {
-    [kind, owner, 0, at, len, 0, 0, 0]
+    [p.list, p.owner, 0, word.at, word.len, 0, 0, 0]
 }
 
 // The words of a value that lies at `base` in the text, as members of a list, from the row `used` on; where they end.
@@ -45,28 +45,27 @@ fn add_words(
     used: usize,
     v: &[u8],
     base: usize,
-    kind: u32,
-    owner: u32,
+    p: MemberPlan,
     events: bool,
 ) -> usize
     requires { (used ≤ 65535) × (base + length v.now ≤ 65535) }
     ensures value { result ≡ used + length (list_cells events base v.now) }
-    ensures members_after { members.new ≡ set_all members.old used (word_members kind owner (list_cells events base v.now)) }
+    ensures members_after { members.new ≡ set_all members.old used (word_members p.list p.owner (list_cells events base v.now)) }
 {
     let mut m = used;
     let mut at = 0;
     while at < v.len() {
         let next = next_in(v, at, events);
-        let start = next.start;
-        let end = next.end;
-        if start == end {
+        if next.start == next.end {
             return m;
         }
-        let n = kept_len(&v[start..end], events);
-        let row = word_row(kind, owner, (base + start + 1) as u32, n as u32);
-        put_8(members, m, row);
+        let word = TextCell {
+            at: (base + next.start + 1) as u32,
+            len: kept_len(&v[next.start..next.end], events) as u32,
+        };
+        put(members, m, word_row(p, word));
         m += 1;
-        at = end;
+        at = next.end;
     }
     m
 }
@@ -84,17 +83,14 @@ fn add_list(
     ensures value { result ≡ used + length (cells_at events text.now (as_cell c)) }
     ensures members_after { members.new ≡ set_all members.old used (word_members p.list p.owner (cells_at events text.now (as_cell c))) }
 {
-    let at = c.at;
-    let len = c.len;
-    if at == 0 {
+    if c.at == 0 {
         return used;
     }
-    let v = text_from(text, at, len);
-    let base = index(at - 1);
+    let base = c.at as usize - 1;
     if text.len() < base {
         return used;
     }
-    add_words(members, used, v, base, p.list, p.owner, events)
+    add_words(members, used, text_from(text, c.at, c.len), base, p, events)
 }
 
 /// The words of an element, from the row `used` on; where they end.
@@ -114,9 +110,7 @@ pub fn write_words(
         return used;
     }
     if tag == Tag::TRANSITION {
-        let c = key_cell(t, Key::EVENT);
-        return add_list(members, used, text, c, p, true);
+        return add_list(members, used, text, key_cell(t, Key::EVENT), p, true);
     }
-    let c = key_cell(t, Key::NAMELIST);
-    add_list(members, used, text, c, p, false)
+    add_list(members, used, text, key_cell(t, Key::NAMELIST), p, false)
 }

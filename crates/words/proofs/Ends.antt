@@ -5,13 +5,13 @@ use mathlib.Core.Bool.{Bool, true, false, ◌&&◌}
 use Prim.Native.Nat.{ℕ, suc, ◌+◌, ◌-◌, ◌≤◌, ◌<◌}
 use native.Mathlib.Omega.{arith}
 use lib.Dec.{eqb, ltb, eqb-suc-zero}
-use lib.ListN.{length, get_or, take, drop, length-drop, length-reverse, length-take, drop_of_length-le}
+use lib.ListN.{length, get_or, take, drop, length-drop, length-take, drop_of_length-le}
 use native.Mathlib.Nat.{zero-add}
-use lib.Seq.{take_all, take-suc, take-add, drop_at, take_at, take-length, length-take-le}
+use lib.Seq.{take_all, take-suc, take_at, length-take-le}
 use borrow.Author.Tests.{eq-eqb, ne_eqb, ltb-true, ltb-false}
 use Rattle.definition.proofs.Base.{same_length}
 use Rattle.definition.specs.Text.{Piece, Span, same, trimmed, bytes_at, pieces, emit, wildcard, stripped_piece, event_words, words_by, is_space, body_length, leading, trim, strip_last, stripped}
-use Rattle.words.specs.Next.{gap, goes, as_span, next_word, piece_at}
+use Rattle.words.specs.Next.{IsShorter, gap, as_span, next_word, piece_at}
 use Rattle.words.specs.declared.Word.{Word}
 use Rattle.words.specs.declared.Part.{Part}
 use Rattle.words.proofs.Laws.{by, next_inside, next_moves, gap_le, next_none, next_some, next_order, empty_rest}
@@ -68,22 +68,9 @@ module _ (w : List ℕ) (n : ℕ) (some : 0 < n) (long : n ≤ length w) where
   pub body_stop : is_space (get_or w (n - 1) 0) ≡ false → body_length (take n w) ≡ n
   body_stop e = ap body_length last ∙ body_full (take (n - 1) w) (get_or w (n - 1) 0) e ∙ omega (arith, length-take-le (n - 1) w (omega arith))
 
-  -- the same last first
-  pub rev_cons : reverse (take n w) ≡ get_or w (n - 1) 0 ∷ reverse (take (n - 1) w)
-  rev_cons = ap reverse last ∙ reverse-append (take (n - 1) w) (get_or w (n - 1) 0 ∷ [])
-
 -- ---- what an event word loses
 
 module _ (b : ℕ) where
-  goes_dot : (r : List ℕ) → eqb b 46 ≡ true → goes (b ∷ r) ≡ 1
-  unfolding goes
-  goes_dot [] e = rw (e, goes)
-  goes_dot (c ∷ r) e = rw (e, goes)
-
-  goes_one : eqb b 46 ≡ false → goes (b ∷ []) ≡ 0
-  unfolding goes
-  goes_one e = rw (e, goes)
-
   strip_dot : (r : List ℕ) → eqb b 46 ≡ true → strip_last (b ∷ r) ≡ strip_last r
   unfolding strip_last
   strip_dot [] e = ap (λ (t : Bool). elim t [ true ↦ [] | false ↦ b ∷ [] ]) e
@@ -94,14 +81,6 @@ module _ (b : ℕ) where
   strip_one e = ap (λ (t : Bool). elim t [ true ↦ [] | false ↦ b ∷ [] ]) e
 
   module _ (c : ℕ) (r : List ℕ) (e : eqb b 46 ≡ false) where
-    goes_star : (eqb b 42 && eqb c 46) ≡ true → goes (b ∷ c ∷ r) ≡ 2
-    unfolding goes
-    goes_star f = rw (e, goes) (rw f)
-
-    goes_two : (eqb b 42 && eqb c 46) ≡ false → goes (b ∷ c ∷ r) ≡ 0
-    unfolding goes
-    goes_two f = rw (e, goes) (rw f)
-
     strip_pair : strip_last (b ∷ c ∷ r) ≡ elim (eqb b 42 && eqb c 46) [ true ↦ strip_last r | false ↦ b ∷ c ∷ r ]
     unfolding strip_last
     strip_pair = ap (λ (t : Bool). elim t [ true ↦ strip_last (c ∷ r) | false ↦ elim (eqb b 42 && eqb c 46) [ true ↦ strip_last r | false ↦ b ∷ c ∷ r ] ]) e
@@ -111,23 +90,6 @@ module _ (b : ℕ) where
 
     strip_two : (eqb b 42 && eqb c 46) ≡ false → strip_last (b ∷ c ∷ r) ≡ b ∷ c ∷ r
     strip_two f = strip_pair ∙ ap (λ (t : Bool). elim t [ true ↦ strip_last r | false ↦ b ∷ c ∷ r ]) f
-
--- what goes once goes
-strip_more : (l : List ℕ) → strip_last (drop (goes l) l) ≡ strip_last l
-unfolding goes
-strip_more [] = refl
-strip_more (b ∷ []) = by (eqb b 46) (λ e. rw (goes_dot b [] e) (sym (strip_dot b [] e))) (λ e. rw (goes_one b e))
-strip_more (b ∷ c ∷ r) =
-    by (eqb b 46) (λ e. rw (goes_dot b (c ∷ r) e) (sym (strip_dot b (c ∷ r) e)))
-    (λ e. by (eqb b 42 && eqb c 46) (λ f. rw (goes_star b c r e f) (sym (strip_star b c r e f))) (λ f. rw (goes_two b c r e f)))
-
-strip_stop : (l : List ℕ) → goes l ≡ 0 → strip_last l ≡ l
-unfolding strip_last
-strip_stop [] h = refl
-strip_stop (b ∷ []) h = by (eqb b 46) (λ e. absurd (omega (arith, goes_dot b [] e))) (strip_one b)
-strip_stop (b ∷ c ∷ r) h =
-    by (eqb b 46) (λ e. absurd (omega (arith, goes_dot b (c ∷ r) e)))
-    (λ e. by (eqb b 42 && eqb c 46) (λ f. absurd (omega (arith, goes_star b c r e f))) (strip_two b c r e))
 
 -- what stays stood there before, after what goes
 front : (l : List ℕ) → (x : List ℕ) × (l ≡ x ++ strip_last l)
@@ -151,86 +113,60 @@ strip_prefix w =
     let e : w ≡ reverse s ++ reverse x = sym (reverse-reverse w) ∙ ap reverse (front (reverse w)).1 ∙ reverse-append x s in
     sym (ap (take (length (reverse s))) e ∙ take_at (reverse s) (reverse x) (length (reverse s)) refl)
 
--- the first n bytes of a word, as code looks at their end
-module _ (w : List ℕ) (n : ℕ) (long : n ≤ length w) where
-  pub tail_none : n ≡ 0 → 0 ≡ goes (reverse (take n w))
-  unfolding goes
-  tail_none e = rw e
+-- A word, as code takes it apart at its end.
+module _ (w : List ℕ) where
+  kept : strip_last (reverse w) ≡ reverse w → w ≡ stripped w
+  unfolding stripped
+  kept e = sym (ap reverse e ∙ reverse-reverse w)
 
-  pub tail_dot : (n ≡ 0 → ⊥) → get_or w (n - 1) 0 ≡ 46 → 1 ≡ goes (reverse (take n w))
-  tail_dot h e = sym (ap goes (rev_cons w n (omega arith) long) ∙ goes_dot _ _ (eq-eqb _ _ e))
+  pub nothing_goes : length w ≡ 0 → w ≡ stripped w
+  unfolding strip_last
+  nothing_goes h = kept (go w h)
+    where
+      go : (l : List ℕ) → length l ≡ 0 → strip_last (reverse l) ≡ reverse l
+      go [] e = refl
+      go (x ∷ l) e = absurd (omega arith)
 
-  pub tail_one : n ≡ 1 → (get_or w (n - 1) 0 ≡ 46 → ⊥) → 0 ≡ goes (reverse (take n w))
-  tail_one h e =
-      let z : reverse (take (n - 1) w) ≡ [] = ap (λ (m : ℕ). reverse (take (m - 1) w)) h in
-      sym (ap goes (rev_cons w n (omega arith) long ∙ ap (λ (l : List ℕ). get_or w (n - 1) 0 ∷ l) z) ∙ goes_one _ (ne_eqb _ _ e))
+  module _ (b : ℕ) (t : List ℕ) (e : (w ≡ t ++ b ∷ []) × (length t + 1 ≡ length w)) where
+    rev_one : reverse w ≡ b ∷ reverse t
+    rev_one = ap reverse e.0 ∙ reverse-append t (b ∷ [])
 
-  module _ (two : 2 ≤ n) (e : get_or w (n - 1) 0 ≡ 46 → ⊥) where
-    pair : reverse (take n w) ≡ get_or w (n - 1) 0 ∷ get_or w (n - 2) 0 ∷ reverse (take (n - 1 - 1) w)
-    pair =
-        let k : n - 1 - 1 ≡ n - 2 = omega arith in
-        rev_cons w n (omega arith) long
-        ∙ ap (λ (l : List ℕ). get_or w (n - 1) 0 ∷ l) (rev_cons w (n - 1) (omega arith) (omega arith) ∙ ap (λ (m : ℕ). get_or w m 0 ∷ reverse (take (n - 1 - 1) w)) k)
+    pub dot_goes : b ≡ 46 → IsShorter t w
+    unfolding stripped
+    dot_goes h = (ap reverse (sym (ap strip_last rev_one ∙ strip_dot b (reverse t) (eq-eqb _ _ h))), omega arith)
 
-    tail_pair : (t : Bool) (k : ℕ) → (eqb (get_or w (n - 1) 0) 42 && eqb (get_or w (n - 2) 0) 46) ≡ t → k ≡ elim t [ true ↦ 2 | false ↦ 0 ] → k ≡ goes (reverse (take n w))
-    tail_pair true k f h = h ∙ sym (ap goes pair ∙ goes_star _ _ _ (ne_eqb _ _ e) f)
-    tail_pair false k f h = h ∙ sym (ap goes pair ∙ goes_two _ _ _ (ne_eqb _ _ e) f)
+    module _ (n : b ≡ 46 → ⊥) where
+      pub lone_stays : length t ≡ 0 → w ≡ stripped w
+      lone_stays h =
+          let z : reverse w ≡ b ∷ [] = rev_one ∙ go t h in
+          kept (ap strip_last z ∙ strip_one b (ne_eqb _ _ n) ∙ sym z)
+        where
+          go : (l : List ℕ) → length l ≡ 0 → ◌≡◌ {A = List ℕ} (b ∷ reverse l) (b ∷ [])
+          go [] e = refl
+          go (x ∷ l) e = absurd (omega arith)
 
-    pub tail_other : (get_or w (n - 1) 0 ≡ 42 → ⊥) → 0 ≡ goes (reverse (take n w))
-    tail_other f = tail_pair false 0 (rw (ne_eqb _ _ f)) refl
+      module _ (c : ℕ) (u : List ℕ) (f : (t ≡ u ++ c ∷ []) × (length u + 1 ≡ length t)) where
+        rev_two : reverse w ≡ b ∷ c ∷ reverse u
+        rev_two = rev_one ∙ ap (λ (l : List ℕ). b ∷ l) (ap reverse f.0 ∙ reverse-append u (c ∷ []))
 
-    module _ (f : get_or w (n - 1) 0 ≡ 42) where
-      pub tail_both : get_or w (n - 2) 0 ≡ 46 → 2 ≡ goes (reverse (take n w))
-      tail_both g = tail_pair true 2 (rw (eq-eqb _ _ f, eq-eqb _ _ g)) refl
+        pub star_goes : b ≡ 42 → c ≡ 46 → IsShorter u w
+        unfolding stripped
+        star_goes h k = (ap reverse (sym (ap strip_last rev_two ∙ strip_star b c (reverse u) (ne_eqb _ _ n) (rw (eq-eqb _ _ h, eq-eqb _ _ k)))), omega arith)
 
-      pub tail_star : (get_or w (n - 2) 0 ≡ 46 → ⊥) → 0 ≡ goes (reverse (take n w))
-      tail_star g = tail_pair false 0 (rw (eq-eqb _ _ f, ne_eqb _ _ g)) refl
+        pub star_stays : b ≡ 42 → (c ≡ 46 → ⊥) → w ≡ stripped w
+        star_stays h k = kept (ap strip_last rev_two ∙ strip_two b c (reverse u) (ne_eqb _ _ n) (rw (eq-eqb _ _ h, ne_eqb _ _ k)) ∙ sym rev_two)
 
-  rev_part : (k : ℕ) → k ≤ n → drop k (reverse (take n w)) ≡ reverse (take (n - k) w)
-  rev_part k h =
-      let e : n ≡ n - k + k = omega arith in
-      let p : List ℕ = take k (drop (n - k) w) in
-      let l : length p ≡ k = length-take-le k (drop (n - k) w) (omega (arith, length-drop (n - k) w)) in
-      ap (λ (m : ℕ). drop k (reverse (take m w))) e
-      ∙ ap (λ (x : List ℕ). drop k (reverse x)) (take-add (n - k) k w)
-      ∙ ap (drop k) (reverse-append (take (n - k) w) p)
-      ∙ drop_at (reverse p) (reverse (take (n - k) w)) k (length-reverse p ∙ l)
-
-  pub strip_again : (k : ℕ) → k ≤ n → k ≡ goes (reverse (take n w)) → strip_last (reverse (take (n - k) w)) ≡ strip_last (reverse (take n w))
-  strip_again k h e = ap strip_last (sym (rev_part k h) ∙ ap (λ (m : ℕ). drop m (reverse (take n w))) e) ∙ strip_more (reverse (take n w))
-
-  pub strip_done : 0 ≡ goes (reverse (take n w)) → length (strip_last (reverse (take n w))) ≡ n
-  strip_done e = ap length (strip_stop (reverse (take n w)) (sym e)) ∙ length-reverse (take n w) ∙ length-take-le n w long
-
-pub strip_all : (w : List ℕ) → length (strip_last (reverse (take (length w) w))) ≡ length (stripped w)
-unfolding stripped
-strip_all w = ap (λ (l : List ℕ). length (strip_last (reverse l))) (take-length w) ∙ sym (length-reverse (strip_last (reverse w)))
-
-pub strip_nothing : (w : List ℕ) (n : ℕ) → n ≤ 0 → length (strip_last (reverse (take n w))) ≡ 0
-unfolding strip_last
-strip_nothing w n h = let e : n ≡ 0 = omega arith in rw e
+      pub other_stays : (b ≡ 42 → ⊥) → w ≡ stripped w
+      other_stays h = kept (ap strip_last rev_one ∙ go (reverse t) ∙ sym rev_one)
+        where
+          go : (l : List ℕ) → strip_last (b ∷ l) ≡ b ∷ l
+          go [] = strip_one b (ne_eqb _ _ n)
+          go (c ∷ r) = strip_two b c r (ne_eqb _ _ n) (rw (ne_eqb _ _ h))
 
 -- ---- the word `*`
 
 pub strip_le : (w : List ℕ) → length (stripped w) ≤ length w
 strip_le w = omega (arith, ap length (strip_prefix w), length-take (length (stripped w)) w)
-
-star_first : (x : ℕ) → eqb x 42 ≡ same (x ∷ []) (42 ∷ [])
-unfolding same
-star_first x = go (eqb x 42)
-  where
-    go : (t : Bool) → t ≡ elim t [ true ↦ true | false ↦ false ]
-    go true = refl
-    go false = refl
-
-take_one : (w : List ℕ) → 1 ≤ length w → take 1 w ≡ get_or w 0 0 ∷ []
-take_one [] h = absurd (omega arith)
-take_one (x ∷ w) h = refl
-
-pub star_one : (w : List ℕ) → length (stripped w) ≡ 1 → eqb (get_or w 0 0) 42 ≡ same (stripped w) (42 ∷ [])
-star_one w e =
-    star_first (get_or w 0 0)
-    ∙ ap (λ (l : List ℕ). same l (42 ∷ [])) (sym (strip_prefix w ∙ ap (λ (n : ℕ). take n w) e ∙ take_one w (omega (arith, strip_le w))))
 
 pub star_long : (w : List ℕ) → (length (stripped w) ≡ 1 → ⊥) → same (stripped w) (42 ∷ []) ≡ false
 star_long w h = same_length (stripped w) (42 ∷ []) h

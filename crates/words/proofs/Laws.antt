@@ -1,8 +1,8 @@
 -- The walk from word to word finds the words of the definition.
 use mathlib.Core.Path.{◌≡◌, refl, ap, sym, ◌∙◌}
 use mathlib.Core.List.{List, [], ◌∷◌, ◌++◌, map, append-nil, append_assoc}
-use mathlib.Core.Bool.{Bool, true, false}
-use Prim.Native.Nat.{ℕ, zero, suc, ◌+◌, ◌-◌, ◌≤◌, ◌<◌}
+use mathlib.Core.Bool.{Bool, true, false, not}
+use Prim.Native.Nat.{ℕ, zero, suc, ◌+◌, ◌-◌, ◌≤◌, ◌<◌, max}
 use native.Mathlib.Nat.{add-zero, zero-add}
 use native.Mathlib.Numerals.{add-one}
 use native.Mathlib.Omega.{arith}
@@ -42,6 +42,10 @@ module _ (parts : ℕ → Bool) where
   pieces_more : (s : ℕ) (w : List ℕ) (b : ℕ) (bs : List ℕ) → parts b ≡ false → pieces parts s w (b ∷ bs) ≡ pieces parts s (w ++ b ∷ []) bs
   unfolding pieces
   pieces_more s w b bs e = rw (e, pieces)
+
+  gap_nil : gap parts [] ≡ 0
+  unfolding gap
+  gap_nil = refl
 
   pub gap_le : (bs : List ℕ) → gap parts bs ≤ length bs
   unfolding gap
@@ -99,15 +103,21 @@ module _ (parts : ℕ → Bool) where
     unfolding gap
     gap_end h = rw (drop_of_length-le v h, add-zero)
 
-    pub run_again : i < length v → parts (get_or v i 0) ≡ false → i + 1 + run parts (drop (i + 1) v) ≡ i + run parts (drop i v)
-    run_again h e = let k : suc i + run parts (drop (suc i) v) ≡ i + suc (run parts (drop (suc i) v)) = omega arith in rw (add-one, k, drop-cons v i 0 h, run_more _ _ e)
+    -- behind the last place that is looked at
+    pub gap_last : (from : ℕ) → length v ≤ i → (from ≤ length v → i ≤ length v) → i + gap parts (drop i v) ≡ from + gap parts (drop from v) → max from (length v) ≡ from + gap parts (drop from v)
+    gap_last from h k e =
+        by (ltb from (length v)) (λ l. let m : from < length v = ltb-true _ _ l in let n : i ≤ length v = k (omega arith) in omega (arith, gap_end h))
+        (λ l. let m : length v ≤ from = ltb-false _ _ l in let z : drop from v ≡ [] = drop_of_length-le v m in omega (arith, ap (gap parts) z, gap_nil))
 
-    pub run_halt : i < length v → parts (get_or v i 0) ≡ true → i ≡ i + run parts (drop i v)
-    run_halt h e = rw (drop-cons v i 0 h, run_stop _ _ e, add-zero)
-
-    pub run_end : length v ≤ i → i ≡ i + run parts (drop i v)
-    unfolding run
-    run_end h = rw (drop_of_length-le v h, add-zero)
+  -- A run is a gap of the other bytes.
+  pub run_gap : (l : List ℕ) → gap (λ (b : ℕ). not (parts b)) l ≡ run parts l
+  unfolding gap run
+  run_gap [] = refl
+  run_gap (b ∷ bs) = go (parts b) (run_gap bs)
+    where
+      go : (t : Bool) → gap (λ (b : ℕ). not (parts b)) bs ≡ run parts bs → ◌≡◌ {A = ℕ} (elim (not t) [ true ↦ suc (gap (λ (b : ℕ). not (parts b)) bs) | false ↦ 0 ]) (elim t [ true ↦ 0 | false ↦ suc (run parts bs) ])
+      go true e = refl
+      go false e = ap suc e
 
   -- ---- the next word from a place on
 

@@ -1,6 +1,6 @@
 -- What the next word of a text is, and what a walk from word to word finds.
-use Rattle.std.specs.Prelude.{ℕ, zero, suc, ◌+◌, ◌-◌, Bool, true, false, ◌&&◌, List, [], ◌∷◌, take, drop, eqb, ltb}
-use Rattle.definition.specs.Text.{is_space, is_separator, Span, Piece}
+use Rattle.std.specs.Prelude.{ℕ, zero, suc, ◌≡◌, ◌+◌, ◌-◌, Bool, true, false, ◌<◌, List, [], ◌∷◌, length, take, drop, ltb}
+use Rattle.definition.specs.Text.{is_space, is_separator, Span, Piece, stripped}
 use Rattle.words.specs.declared.Word.{Word}
 use Rattle.words.specs.declared.Part.{Part}
 
@@ -8,6 +8,10 @@ use Rattle.words.specs.declared.Part.{Part}
 unfoldable pub parted_by : Bool → ℕ → Bool
 parted_by true = is_space
 parted_by false = is_separator
+
+-- What a test may answer is what `p` says.
+abbrev pub Tells : (ℕ → Bool) → (ℕ → Bool → Type 0) → Type 0
+Tells p post = (b : ℕ) (r : Bool) → post b r → r ≡ p b
 
 -- How many bytes at the start part words.
 unfoldable pub gap : (ℕ → Bool) → List ℕ → ℕ
@@ -45,8 +49,6 @@ moved o p = record { off = o + p.off; word = p.word }
 unfoldable pub as_span : Part → Span
 as_span p = record { off = p.off; len = p.len }
 
--- How many bytes an event word loses at once; its bytes stand last first.
-unfoldable pub goes : List ℕ → ℕ
-goes [] = 0
-goes (b ∷ []) = elim (eqb b 46) [ true ↦ 1 | false ↦ 0 ]
-goes (b ∷ c ∷ r) = elim (eqb b 46) [ true ↦ 1 | false ↦ elim (eqb b 42 && eqb c 46) [ true ↦ 2 | false ↦ 0 ] ]
+-- It is shorter than an event word, and stripped the same.
+abbrev pub IsShorter : List ℕ → List ℕ → Type 0
+IsShorter r w = (stripped r ≡ stripped w) × (length r < length w)

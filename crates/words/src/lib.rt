@@ -2,12 +2,12 @@
 
 #![tactic(auto)]
 
-ghost use Rattle.std.specs.Prelude.{◌≡◌, [], ◌∷◌, reverse, ◌+◌, ◌≤◌, length, drop, take};
+ghost use Rattle.std.specs.Prelude.{◌≡◌, ℕ, Bool, [], ◌∷◌, ◌+◌, length, drop, MatchOption};
 ghost use Rattle.definition.specs.Text as T;
 ghost use Rattle.definition.specs.Text.{is_space, is_separator, body_length, stripped, event_words};
-ghost use Rattle.words.specs.Next.{parted_by, gap, run, next_word, as_span, goes};
+ghost use Rattle.words.specs.Next.{Tells, IsShorter, gap, next_word, as_span};
 
-use text::{is_separator, is_space};
+use text::{is_separator, is_space, same};
 
 // From start up to end; both are the same where there is no word.
 #[derive(Clone, Copy)]
@@ -22,48 +22,26 @@ pub struct Part {
     pub len: usize,
 }
 
-fn parts(b: u8, events: bool) -> bool
-    ensures { result ≡ parted_by events b }
+// The first place from `from` on of which the test does not hold, or the end.
+fn skip<F: Fn(u8) -> bool>(v: &[u8], from: usize, test: F) -> usize
+    requires { F.IsAlwaysCallable test }
+    ensures { (p : ℕ → Bool) → Tells p (λ b r. F.post test b r) → result ≡ from + gap p (drop from v.now) }
 {
-    if events {
-        return is_space(b);
-    }
-    is_separator(b)
-}
-
-// The first place from `from` on that is in a word, or the end.
-fn skip_gap(v: &[u8], from: usize, events: bool) -> usize
-    ensures { result ≡ from + gap (parted_by events) (drop from v.now) }
-{
-    let mut i = from;
-    while i < v.len() {
-        if !parts(v[i], events) {
+    for i in from..v.len() {
+        if !test(v[i]) {
             return i;
         }
-        i += 1;
     }
-    i
+    from.max(v.len())
 }
 
-// The first place from `from` on that is in no word, or the end.
-fn skip_run(v: &[u8], from: usize, events: bool) -> usize
-    ensures { result ≡ from + run (parted_by events) (drop from v.now) }
+// The first word from `from` on, where the bytes of which the test holds part words.
+fn next_word<F: Fn(u8) -> bool>(v: &[u8], from: usize, parts: F) -> Word
+    requires { F.IsAlwaysCallable parts }
+    ensures { (p : ℕ → Bool) → Tells p (λ b r. F.post parts b r) → result ≡ next_word p v.now from }
 {
-    let mut i = from;
-    while i < v.len() {
-        if parts(v[i], events) {
-            return i;
-        }
-        i += 1;
-    }
-    i
-}
-
-fn next_word(v: &[u8], from: usize, events: bool) -> Word
-    ensures { result ≡ next_word (parted_by events) v.now from }
-{
-    let start = skip_gap(v, from, events);
-    let end = skip_run(v, start, events);
+    let start = skip(v, from, &parts);
+    let end = skip(v, start, |b| !parts(b));
     Word { start, end }
 }
 
@@ -71,26 +49,24 @@ fn next_word(v: &[u8], from: usize, events: bool) -> Word
 pub fn next_event_word(v: &[u8], from: usize) -> Word
     ensures { result ≡ next_word is_space v.now from }
 {
-    next_word(v, from, true)
+    next_word(v, from, is_space)
 }
 
 // Targets, `initial` and namelists are parted by separators: byte 11 is none.
 pub fn next_state_word(v: &[u8], from: usize) -> Word
     ensures { result ≡ next_word is_separator v.now from }
 {
-    next_word(v, from, false)
+    next_word(v, from, is_separator)
 }
 
 // The length without white space at the end.
 fn body_length(w: &[u8]) -> usize
     ensures { result ≡ body_length w.now }
 {
-    let mut n = w.len();
-    while 0 < n {
-        if !is_space(w[n - 1]) {
-            return n;
+    for i in (0..w.len()).rev() {
+        if !is_space(w[i]) {
+            return i + 1;
         }
-        n -= 1;
     }
     0
 }
@@ -98,57 +74,50 @@ fn body_length(w: &[u8]) -> usize
 pub fn trim(v: &[u8]) -> Part
     ensures { as_span result ≡ T.trim v.now }
 {
-    let off = skip_gap(v, 0, true);
-    let len = body_length(&v[off..]);
-    Part { off, len }
+    let off = skip(v, 0, is_space);
+    Part {
+        off,
+        len: body_length(&v[off..]),
+    }
 }
 
-// How many bytes of the first n go at their end: `.` or `.*`, or none.
-fn tail(w: &[u8], n: usize) -> usize
-    requires { n ≤ length w.now }
-    ensures value { result ≡ goes (reverse (take n w.now)) }
-    ensures upper_bound { result ≤ n }
+// What is left of a word that ends in `.` or `.*`.
+fn shorter(w: &[u8]) -> Option<&[u8]>
+    ensures { MatchOption result (w.now ≡ stripped w.now) (λ r. IsShorter r.now w.now) }
 {
-    if n == 0 {
-        return 0;
+    let (last, rest) = w.split_last()?;
+    if *last == b'.' {
+        return Some(rest);
     }
-    if w[n - 1] == 46 {
-        return 1;
+    if *last != b'*' {
+        return None;
     }
-    if n == 1 {
-        return 0;
+    let (dot, left) = rest.split_last()?;
+    if *dot == b'.' { Some(left) } else { None }
+}
+
+// What is left of an event word when it ends in neither.
+fn stripped(w: &[u8]) -> &[u8]
+    ensures { result.now ≡ stripped w.now }
+{
+    let mut rest = w;
+    while let Some(left) = shorter(rest) {
+        rest = left;
     }
-    if w[n - 1] != 42 {
-        return 0;
-    }
-    if w[n - 2] == 46 {
-        return 2;
-    }
-    0
+    rest
 }
 
 // How much of an event word is left without what it loses at its end.
 pub fn stripped_len(w: &[u8]) -> usize
     ensures { result ≡ length (stripped w.now) }
 {
-    let mut n = w.len();
-    while 0 < n {
-        let k = tail(w, n);
-        if k == 0 {
-            return n;
-        }
-        n -= k;
-    }
-    0
+    stripped(w).len()
 }
 
 fn is_star(w: &[u8]) -> bool
     ensures { result ≡ T.same (stripped w.now) (42 ∷ []) }
 {
-    if stripped_len(w) != 1 {
-        return false;
-    }
-    w[0] == 42
+    same(stripped(w), b"*")
 }
 
 // Whether some word of an event value is `*` in the end.
@@ -158,12 +127,10 @@ pub fn is_wildcard(v: &[u8]) -> bool
     let mut at = 0;
     while at < v.len() {
         let w = next_event_word(v, at);
-        let start = w.start;
-        let end = w.end;
-        if is_star(&v[start..end]) {
+        if is_star(&v[w.start..w.end]) {
             return true;
         }
-        at = end;
+        at = w.end;
     }
     false
 }

@@ -2,13 +2,15 @@
 use Prim.Native.Nat.{ℕ, ◌≤◌, ◌<◌}
 use mathlib.Core.Path.{◌≡◌, ap, ◌∙◌}
 use mathlib.Core.Bool.{Bool}
-use mathlib.Core.List.{List, [], ◌∷◌}
+use mathlib.Core.List.{List}
 use native.Mathlib.Omega.{arith}
 use lib.ListN.{length}
 use Rattle.definition.specs.declared.Position.{Position}
 use Rattle.definition.specs.Rows.{Row, Table}
 use Rattle.definition.specs.Look.{kept_name, name_row}
-use Rattle.definition.specs.Reader.{Lent}
+use Rattle.definition.specs.Reader as Reader
+use Rattle.rows.specs.declared.lent.Lent.{Lent}
+use Rattle.rows.specs.Lent.{lent, lent_of}
 use Rattle.plain.specs.Plain.{Parsed, parsed_of}
 use Rattle.plain.proofs.PlainLaw.{form}
 use Rattle.plan.specs.declared.Plan.{Plan}
@@ -21,38 +23,75 @@ use Rattle.whole.specs.After.{position_by, InRange}
 use Rattle.whole.proofs.Done as D
 use Rattle.write.specs.Leaves.{Leaves}
 
-module _ (p : Position) (a b c d f h i j k o y r : Table) (tx : List ℕ) (v : Parsed) (q : Plan) (made : Bool) (charge : ℕ) where
-  abbrev x : Lent
-  x = record { tables = a ∷ b ∷ c ∷ d ∷ f ∷ h ∷ i ∷ j ∷ k ∷ o ∷ y ∷ r ∷ []; text = tx }
+module _ (xs : Lent) (p : Position) (v : Parsed) (q : Plan) (made : Bool) (charge : ℕ) (R : Ready (lent_of xs) p v q made charge) where
+  abbrev a : Table
+  a = xs.chart.now
 
-  pub asks : Ready x p v q made charge → Storable p v b k tx made q.members
-  asks R = D.asks p a b c d f h i j k o y r tx v q R.accepted made R.makes
+  abbrev b : Table
+  b = xs.states.now
 
-  pub name_short : (w : List ℕ) → w ≡ v.name → Ready x p v q made charge → length w ≤ 64
+  abbrev c : Table
+  c = xs.transitions.now
+
+  abbrev d : Table
+  d = xs.regions.now
+
+  abbrev f : Table
+  f = xs.entries.now
+
+  abbrev h : Table
+  h = xs.invokes.now
+
+  abbrev i : Table
+  i = xs.datums.now
+
+  abbrev j : Table
+  j = xs.parameters.now
+
+  abbrev k : Table
+  k = xs.members.now
+
+  abbrev o : Table
+  o = xs.opened.now
+
+  abbrev y : Table
+  y = xs.open_names.now
+
+  abbrev r : Table
+  r = xs.open_regions.now
+
+  abbrev tx : List ℕ
+  tx = xs.text.now
+
+  pub asks : Storable p v b k tx made q.members
+  asks = D.asks p a b c d f h i j k o y r tx v q R.accepted made R.makes
+
+  pub name_short : {w : List ℕ} → w ≡ v.name → length w ≤ 64
   unfolding parsed_of
-  name_short w e R = omega (arith, ap length e, ap (λ (z : Parsed). length z.name) R.accepted.parsed, name_of)
+  name_short e = omega (arith, ap length e, ap (λ (z : Parsed). length z.name) R.accepted.parsed, name_of)
     where
       name_of : length (parsed_of R.accepted.event).name ≤ 64
       name_of = (form R.accepted.event R.accepted.form).name
 
-  module _ (R : Ready x p v q made charge) (st' ms' : Table) (tx' t' : List ℕ) (w : Written) (W : Stored p v b k tx q.members st' ms' tx' t' w) where
+  module _ {st' ms' : Table} {tx' t' : List ℕ} {w : Written} (W : Stored p v b k tx q.members st' ms' tx' t' w) where
     pub in_range : InRange p q v.kind made charge w
     in_range = D.in_range p a b c d f h i j k o y r tx v q R.accepted made R.makes charge R.takes st' ms' tx' t' w W
 
-    pub apply_asks : (n : Position) → n ≡ rows_of p w.members → ((n.regions < 65536) × (n.members < 65536)) × (q.pending.kept < 65536)
-    apply_asks n e = ((omega (arith, ap (λ (z : Position). z.regions) e, in_range.regions), omega (arith, ap (λ (z : Position). z.members) e, in_range.members)), in_range.pending)
+    pub apply_asks : {n : Position} → n ≡ rows_of p w.members → ((n.regions < 65536) × (n.members < 65536)) × (q.pending.kept < 65536)
+    apply_asks e = ((omega (arith, ap (λ (z : Position). z.regions) e, in_range.regions), omega (arith, ap (λ (z : Position). z.members) e, in_range.members)), in_range.pending)
 
-    pub leaves : (name : List ℕ) → name ≡ v.name → (row : Row) → row ≡ name_row (kept_name v.tag name) → (nl : ℕ) → nl ≡ length (kept_name v.tag name)
-        → (n : Position) → n ≡ rows_of p w.members → (m : ℕ) → m ≡ move_of v.kind
-        → (ts : List Table) → ts ≡ applied_in t' v.tag m nl row n q a st' c d f h i j ms' o y r
-        → (u : Position) → u ≡ position_by p q v.kind made charge w
-        → Leaves x p v q (record { tables = ts; text = tx' }) u
-    leaves name en row er nl el n ec m em ts et u eu =
+    pub leaves : {name : List ℕ} → name ≡ v.name → {row : Row} → row ≡ name_row (kept_name v.tag name) → {nl : ℕ} → nl ≡ length (kept_name v.tag name)
+        → {n : Position} → n ≡ rows_of p w.members → {m : ℕ} → m ≡ move_of v.kind
+        → {z : Reader.Lent} → z ≡ lent (applied_in t' v.tag m nl row n q a st' c d f h i j ms' o y r) tx'
+        → {u : Position} → u ≡ position_by p q v.kind made charge w
+        → Leaves (lent_of xs) p v q z u
+    leaves {name} en {row} er {nl} el {n} ec {m} em {z} et {u} eu =
         record {
           lent = λ A.
-              D.tables_done p a b c d f h i j k o y r tx v q A made R.makes charge R.takes st' ms' tx' t' w W ts nl row
+              et
+              ∙ D.tables_done p a b c d f h i j k o y r tx v q A made R.makes charge R.takes st' ms' tx' t' w W (applied_in t' v.tag m nl row n q a st' c d f h i j ms' o y r) nl row
               (er ∙ ap (λ (z : List ℕ). name_row (kept_name v.tag z)) en)
               (el ∙ ap (λ (z : List ℕ). length (kept_name v.tag z)) en)
-              (et ∙ (λ z. applied_in t' v.tag (em z) nl row (ec z) q a st' c d f h i j ms' o y r));
+              (λ z. applied_in t' v.tag (em z) nl row (ec z) q a st' c d f h i j ms' o y r);
           position = λ A. D.position_done p a b c d f h i j k o y r tx v q A made R.makes charge R.takes st' ms' tx' t' w W u eu;
         }

@@ -5,7 +5,8 @@
 ghost use Rattle.std.specs.Prelude.{◌≡◌, ◌<◌, ◌≤◌, length};
 ghost use Rattle.definition.specs.Look.{kept_name};
 ghost use Rattle.plain.specs.Plain.{parsed_in};
-ghost use Rattle.apply.specs.Applied.{tables_of, rows_of};
+ghost use Rattle.rows.specs.Lent.{lent_of, SameLoans};
+ghost use Rattle.apply.specs.Applied.{rows_of};
 ghost use Rattle.whole.specs.Accepted.{Ready};
 ghost use Rattle.write.specs.Leaves.{Leaves};
 
@@ -13,11 +14,9 @@ use advance::{moves, position_after};
 use apply::{apply, name_row};
 use arena::{Written, write_texts};
 use definition::Position;
-use plain::{Plain, Slot, bytes_of};
-use plan::{
-    ChartPlan, CounterPlan, DatumPlan, EntryPlan, InvokePlan, MemberPlan, MembersPlan, OpenPlan,
-    OpenRegionPlan, ParameterPlan, Plan, RegionPlan, StatePlan, TransitionPlan,
-};
+use plain::{Plain, bytes_of};
+use plan::Plan;
+use rows::lent::Lent;
 
 // A known element is kept by its number alone.
 fn name_length(tag: u32, name: &[u8]) -> u32
@@ -34,26 +33,15 @@ fn rows_of(p: Position, members: usize) -> Position
     requires { members < 65536 }
     ensures { result ≡ rows_of p members }
 {
-    let mut q = p;
-    q.members = members as u32;
-    q
+    Position {
+        members: members as u32,
+        ..p
+    }
 }
 
 /// All that an accepted event does: its texts, words and names first, then a row here and there, by its plan.
 pub fn write(
-    chart: &mut [[u32; 24]],
-    states: &mut [[u32; 24]],
-    transitions: &mut [[u32; 8]],
-    regions: &mut [[u32; 8]],
-    entries: &mut [[u32; 48]],
-    invokes: &mut [[u32; 24]],
-    datums: &mut [[u32; 8]],
-    parameters: &mut [[u32; 8]],
-    members: &mut [[u32; 8]],
-    opened: &mut [[u32; 8]],
-    names: &mut [[u8; 64]],
-    pending: &mut [[u32; 8]],
-    text: &mut [u8],
+    lent: &mut Lent<'_>,
     p: Position,
     src: &[u8],
     pl: Plain,
@@ -61,37 +49,31 @@ pub fn write(
     charge: u32,
     q: Plan,
 ) -> Position
-    requires { Ready (record { tables = tables_of chart.old states.old transitions.old regions.old entries.old invokes.old datums.old parameters.old members.old opened.old names.old pending.old; text = text.old }) p (parsed_in src.now pl) q made charge }
-    ensures { Leaves (record { tables = tables_of chart.old states.old transitions.old regions.old entries.old invokes.old datums.old parameters.old members.old opened.old names.old pending.old; text = text.old }) p (parsed_in src.now pl) q (record { tables = tables_of chart.new states.new transitions.new regions.new entries.new invokes.new datums.new parameters.new members.new opened.new names.new pending.new; text = text.new }) result }
+    requires { Ready (lent_of lent.old) p (parsed_in src.now pl) q made charge }
+    ensures leaves { Leaves (lent_of lent.old) p (parsed_in src.now pl) q (lent_of lent.new) result }
+    ensures loans { SameLoans lent.old lent.new }
 {
-    let m = q.members;
     let mut t = [0u32; 64];
-    let w = write_texts(states, members, text, p, src, pl, made, m, &mut t);
+    let w = write_texts(
+        lent.states,
+        lent.members,
+        lent.text,
+        p,
+        src,
+        pl,
+        made,
+        q.members,
+        &mut t,
+    );
     let name = bytes_of(src, pl.name);
-    let row = name_row(pl.tag, name);
-    let length = name_length(pl.tag, name);
-    let listed = w.members;
-    let n = rows_of(p, listed);
-    let to = moves(pl.kind);
     apply(
-        chart,
-        states,
-        transitions,
-        regions,
-        entries,
-        invokes,
-        datums,
-        parameters,
-        members,
-        opened,
-        names,
-        pending,
+        lent,
         &t,
         pl.tag,
-        to,
-        length,
-        row,
-        n,
+        moves(pl.kind),
+        name_length(pl.tag, name),
+        name_row(pl.tag, name),
+        rows_of(p, w.members),
         q,
     );
     position_after(p, q, pl.kind, made, charge, w)

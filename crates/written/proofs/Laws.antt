@@ -2,16 +2,19 @@
 use mathlib.Core.Path.{◌≡◌, refl, ap, sym, ◌∙◌}
 use mathlib.Core.List.{List, [], ◌∷◌, ◌++◌}
 use mathlib.Core.Bool.{Bool, true, false}
-use Prim.Native.Nat.{ℕ, suc, ◌+◌, ◌-◌, ◌/◌, ◌%◌, ◌≤◌, ◌<◌}
-use native.Mathlib.Nat.{add-zero, zero-add, mod-eq_of_lt}
+use Prim.Native.Nat.{ℕ, suc, ◌+◌, ◌≤◌, ◌<◌}
+use native.Mathlib.Nat.{add-zero, zero-add}
 use native.Mathlib.Numerals.{add-one}
 use native.Mathlib.Omega.{arith}
 use lib.Dec.{eqb}
 use lib.ListN.{length, get_or, drop, set, drop_of_length-le, length-append}
 use lib.Seq.{drop-cons, sets, sets-eq, length-sets, set_comm}
-use borrow.Author.Tests.{lt-ltb, le-ltb, le-leb, lt-leb, eq-eqb, ne_eqb, eqb-true, eqb-false}
+use borrow.Author.Tests.{le-leb, lt-leb, eq-eqb, ne_eqb, eqb-true, eqb-false}
 use Rattle.words.proofs.Laws.{by}
-use Rattle.definition.specs.Text.{digits, decimal, generated_name, str, escaped_quotes, quoted, trimmed}
+use Rattle.definition.specs.Text.{decimal, generated_name, str, escaped_quotes, quoted, trimmed}
+use Rattle.std.specs.Prelude.{count_by}
+use Rattle.std.proofs.lemmas.List.Sums.{sum_by-cons}
+use mathlib.Core.Bool.{cond}
 use Rattle.written.specs.Written.{written, written_length, escape, in_quotes}
 
 -- ---- runs of stores
@@ -48,76 +51,6 @@ module _ (w t : List ℕ) where
   pub length_none : length t < length w → 0 ≡ written_length w t
   unfolding written_length
   length_none h = rw (lt-leb _ _ h, written_length)
-
--- ---- digits
-
-module _ (f m : ℕ) where
-  pub digits_one : m < 10 → digits (suc f) m ≡ (48 + m % 10) ∷ []
-  unfolding digits
-  digits_one h = rw (mod-eq_of_lt h, lt-ltb _ _ h, digits)
-
-  pub digits_more : 10 ≤ m → digits (suc f) m ≡ digits f (m / 10) ++ (48 + m % 10) ∷ []
-  unfolding digits
-  digits_more h = rw (le-ltb _ _ h, digits)
-
--- counting: k digits are passed, of twenty
-module _ (k m : ℕ) where
-  pub count_one : k < 20 → m < 10 → k + 1 ≡ k + length (digits (20 - k) m)
-  count_one h l = let e : 20 - k ≡ suc (20 - (k + 1)) = omega arith in rw (e, digits_one (20 - (k + 1)) m l)
-
-  pub count_more : k < 20 → 10 ≤ m → k + 1 + length (digits (20 - (k + 1)) (m / 10)) ≡ k + length (digits (20 - k) m)
-  count_more h l =
-      let f : ℕ = 20 - (k + 1) in
-      let e : 20 - k ≡ suc f = omega arith in
-      omega (arith, ap (λ (n : ℕ). length (digits n m)) e, ap length (digits_more f m l), length-append (digits f (m / 10)) ((48 + m % 10) ∷ []))
-
-  pub count_end : 20 ≤ k → k ≡ k + length (digits (20 - k) m)
-  unfolding digits
-  count_end h = let e : 20 - k ≡ 0 = omega arith in rw (e, add-zero)
-
--- storing: with count digits in all, k of them are left
-abbrev pub rest : ℕ → ℕ → ℕ → List ℕ
-rest count k m = digits (20 - (count - k)) m
-
-no_digits : (f m : ℕ) → f ≡ 0 → length (digits f m) ≡ 0
-unfolding digits
-no_digits f m e = rw e
-
-length_zero : (l : List ℕ) → length l ≡ 0 → l ≡ []
-length_zero [] h = refl
-length_zero (x ∷ l) h = absurd (omega arith)
-
-module _ (l : List ℕ) (at count k m : ℕ) (there : k ≤ count) (long : length (rest count k m) ≡ k) where
-  module _ (some : 0 < k) where
-    fuel : 20 - (count - k) ≡ suc (20 - (count - (k - 1)))
-    fuel =
-        by (eqb (20 - (count - k)) 0) (λ e. absurd (omega (arith, no_digits (20 - (count - k)) m (eqb-true _ _ e))))
-        (λ e. let n : 20 - (count - k) ≡ 0 → ⊥ = eqb-false _ _ e in omega arith)
-
-    pub put_last : m < 10 → set l (at + (k - 1)) (48 + m % 10) ≡ sets l at (rest count k m)
-    put_last h =
-        let e : rest count k m ≡ (48 + m % 10) ∷ [] = ap (λ (n : ℕ). digits n m) fuel ∙ digits_one _ m h in
-        let n : at + (k - 1) ≡ at = omega (arith, ap length e) in
-        rw (e, n)
-
-    module _ (big : 10 ≤ m) where
-      pub rest_more : rest count k m ≡ rest count (k - 1) (m / 10) ++ (48 + m % 10) ∷ []
-      rest_more = ap (λ (n : ℕ). digits n m) fuel ∙ digits_more _ m big
-
-      pub rest_long : length (rest count (k - 1) (m / 10)) ≡ k - 1
-      rest_long = omega (arith, ap length rest_more, length-append (rest count (k - 1) (m / 10)) ((48 + m % 10) ∷ []))
-
-      pub put_more : sets (set l (at + (k - 1)) (48 + m % 10)) at (rest count (k - 1) (m / 10)) ≡ sets l at (rest count k m)
-      put_more =
-          let x : List ℕ = rest count (k - 1) (m / 10) in
-          sets_back x ((48 + m % 10) ∷ []) l at (at + (k - 1)) (omega (arith, rest_long)) ∙ ap (sets l at) (sym rest_more)
-
-  pub put_end : k ≤ 0 → l ≡ sets l at (rest count k m)
-  put_end h = rw (length_zero (rest count k m) (omega arith))
-
-pub rest_all : (count m : ℕ) → rest count count m ≡ decimal m
-unfolding decimal
-rest_all count m = let e : 20 - (count - count) ≡ 20 = omega arith in rw e
 
 -- ---- generated names
 
@@ -159,6 +92,15 @@ module _ (b : ℕ) where
 
   pub escape_short : (b ≡ 34 → ⊥) → length (escape b) ≡ 1
   escape_short h = by (eqb b 10) (λ e. ap length (escape_line h (eqb-true _ _ e))) (λ e. ap length (escape_other h (eqb-false _ _ e)))
+
+escape_length_is : (b : ℕ) → length (escape b) ≡ cond (eqb b 34) 1 0 + 1
+escape_length_is b = by (eqb b 34) (λ e. ap length (escape_mark b (eqb-true _ _ e)) ∙ rw e) (λ e. escape_short b (eqb-false _ _ e) ∙ rw e)
+
+-- In quotes a text has as many bytes more as it has quotation marks.
+pub marks_by : (w : List ℕ) → count_by (λ (b : ℕ). eqb b 34) w + length w ≡ length (escaped_quotes w)
+unfolding escaped_quotes
+marks_by [] = refl
+marks_by (b ∷ w) = omega (arith, sum_by-cons (λ (x : ℕ). cond (eqb x 34) 1 0) b w, marks_by w, ap length (escape_cons b w), length-append (escape b) (escaped_quotes w), escape_length_is b)
 
 module _ (w : List ℕ) (i : ℕ) where
   pub escape_at : i < length w → escaped_quotes (drop i w) ≡ escape (get_or w i 0) ++ escaped_quotes (drop (i + 1) w)

@@ -7,46 +7,14 @@ ghost use Rattle.std.proofs.lemmas.List.Edits.{sets};
 ghost use Rattle.definition.specs.Text.{decimal, generated_name, escaped_quotes, quoted};
 ghost use Rattle.written.specs.Written.{written, written_length, escape, in_quotes};
 
+use itoa::Buffer;
 use words::trim;
 
-fn digit_count(n: u32) -> usize
-    ensures value { result ≡ length (decimal n) }
-    ensures upper_bound { result ≤ 20 }
+fn put_at(out: &mut [u8], at: usize, w: &[u8])
+    requires { at + length w.now ≤ length out.old }
+    ensures { out.new ≡ sets out.old at w.now }
 {
-    let mut m = n;
-    let mut k = 0;
-    while k < 20 {
-        k += 1;
-        if m < 10 {
-            return k;
-        }
-        m = m / 10;
-    }
-    k
-}
-
-fn digit(m: u32) -> u8
-    ensures { result ≡ 48 + m % 10 }
-{
-    48 + (m % 10) as u8
-}
-
-// The digits of n from `at` on, the last one first; count is their number.
-fn put_digits(out: &mut [u8], at: usize, count: usize, n: u32)
-    requires count_value { count ≡ length (decimal n) }
-    requires count_in_bounds { at + count ≤ length out.old }
-    ensures { out.new ≡ sets out.old at (decimal n) }
-{
-    let mut m = n;
-    let mut k = count;
-    while 0 < k {
-        k -= 1;
-        out[at + k] = digit(m);
-        if m < 10 {
-            return;
-        }
-        m = m / 10;
-    }
+    out[at..at + w.len()].copy_from_slice(w);
 }
 
 // `__id` and n. The length, or 0 where the buffer is too short: then nothing is written.
@@ -54,41 +22,23 @@ pub fn put_generated(out: &mut [u8], n: u32) -> usize
     ensures value { result ≡ written_length (generated_name n) out.old }
     ensures out_after { out.new ≡ written (generated_name n) out.old }
 {
-    let count = digit_count(n);
-    if out.len() < 4 + count {
+    let mut buffer = Buffer::new();
+    let digits = buffer.format(n).as_bytes();
+    let end = 4 + digits.len();
+    if out.len() < end {
         return 0;
     }
-    put_digits(out, 4, count, n);
-    out[0] = 95;
-    out[1] = 95;
-    out[2] = 105;
-    out[3] = 100;
-    4 + count
+    put_at(out, 4, digits);
+    put_at(out, 0, b"__id");
+    end
 }
 
-// One more where the byte is a quotation mark, which gets a backslash before it.
-fn extra(b: u8) -> usize
-    ensures result_value { result + 1 ≡ length (escape b) }
-    ensures upper_bound { result ≤ 1 }
-{
-    if b == 34 {
-        return 1;
-    }
-    0
-}
-
-// How many quotation marks a text has.
+// How many quotation marks a text has: each gets a backslash before it.
 fn marks(w: &[u8]) -> usize
     ensures w_value { result + length w.now ≡ length (escaped_quotes w.now) }
     ensures upper_bound { result ≤ length w.now }
 {
-    let mut n: usize = 0;
-    let mut i = 0;
-    while i < w.len() {
-        n += extra(w[i]);
-        i += 1;
-    }
-    n
+    w.iter().filter(|b| **b == b'"').count()
 }
 
 fn put_escape(out: &mut [u8], at: usize, b: u8) -> usize
@@ -96,13 +46,13 @@ fn put_escape(out: &mut [u8], at: usize, b: u8) -> usize
     ensures value { result ≡ at + length (escape b) }
     ensures out_after { out.new ≡ sets out.old at (escape b) }
 {
-    if b == 34 {
-        out[at] = 92;
-        out[at + 1] = 34;
+    if b == b'"' {
+        out[at] = b'\\';
+        out[at + 1] = b'"';
         return at + 2;
     }
-    if b == 10 {
-        out[at] = 32;
+    if b == b'\n' {
+        out[at] = b' ';
         return at + 1;
     }
     out[at] = b;
@@ -115,10 +65,8 @@ fn put_escapes(out: &mut [u8], at: usize, w: &[u8]) -> usize
     ensures out_after { out.new ≡ sets out.old at (escaped_quotes w.now) }
 {
     let mut p = at;
-    let mut i = 0;
-    while i < w.len() {
-        p = put_escape(out, p, w[i]);
-        i += 1;
+    for b in w {
+        p = put_escape(out, p, *b);
     }
     p
 }
@@ -138,9 +86,9 @@ fn put_in_quotes(out: &mut [u8], w: &[u8]) -> usize
     if room - w.len() < more {
         return 0;
     }
-    out[0] = 34;
+    out[0] = b'"';
     let at = put_escapes(out, 1, w);
-    out[at] = 34;
+    out[at] = b'"';
     at + 1
 }
 

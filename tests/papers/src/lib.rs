@@ -129,7 +129,7 @@ pub fn defines(file: &Path, name: &str) -> bool {
         })
     };
     let antt = ["", "pub ", "unfoldable ", "unfoldable pub ", "abbrev ", "abbrev pub ", "pub record ", "pub data "];
-    let rattle = ["fn ", "pub fn ", "pub extern \"C\" fn ", "const ", "pub const ", "pub struct "];
+    let rattle = ["fn ", "pub fn ", "pub extern \"C\" fn ", "const ", "pub const ", "pub struct ", "pub enum "];
     let rust = ["fn ", "pub fn ", "pub(crate) fn ", "static void ", "static int "];
     let (entry, text) = (file.file_name().and_then(|name| name.to_str()), text.as_str());
     text.lines().any(|line| match file.extension().and_then(|extension| extension.to_str()) {

@@ -101,15 +101,8 @@ fn edit_files() -> Vec<PathBuf> {
     all.into_iter().filter(|path| path.parent().is_some_and(holds_edits)).collect()
 }
 
-/// The crate's folder and each replacement of its edits that must fail.
-fn edits() -> Vec<(String, Replacement)> {
-    let edits =
-        edit_files().into_iter().filter(|path| path.parent().is_some_and(|folder| folder.ends_with("must-fail")));
-    let parts = edits.flat_map(|path| {
-        let crate_folder = path.ancestors().nth(2).expect("a crate").display().to_string();
-        replacements(&read(&path)).into_iter().map(move |part| (crate_folder.clone(), part))
-    });
-    parts.collect()
+fn must_fail_files() -> impl Iterator<Item = PathBuf> {
+    edit_files().into_iter().filter(|path| path.parent().is_some_and(|folder| folder.ends_with("must-fail")))
 }
 
 /// An edit whose text is no longer in its file, or stands there twice, tries nothing; `rt ci` would say so, but only at
@@ -137,30 +130,48 @@ fn edits_find_what_they_replace() {
 fn without_goals(answer: &str) -> String {
     let mut words = answer.trim_start_matches("pub ").split_whitespace();
     words.next();
-    let is_made = |word: &&str| ["c.", "goal."].iter().any(|head| word.trim_start_matches('(').starts_with(head));
+    let is_made = |word: &&str| {
+        ["c.", "goal.", "then-", "else-"].iter().any(|head| word.trim_start_matches('(').starts_with(head))
+    };
     words.filter(|word| !is_made(word)).collect::<Vec<_>>().join(" ")
 }
 
-/// An edit that brings a name that its file does not know is refused for that, whatever the contract says. Codes and columns are known by their type.
+/// A proof's own words and a method of the library, which need no import.
+const KNOWN_WORDS: [&str; 4] = ["checked_sub", "elim", "omega", "search"];
+
+/// An edit that brings a name that its file does not know is refused for that, whatever the contract says. Codes, columns and the fields of a position are known by their type;
+/// an edit may bring a name's `use` line.
 #[test]
 fn edits_use_names_in_scope() {
-    let shared = ["codes", "cells"].map(|name| read(&repository().join(format!("crates/definition/src/{name}.rt"))));
-    for (folder, part) in edits() {
-        let source = read(&Path::new(&folder).join(&part.file));
-        let known: Vec<&str> = shared.iter().chain([&source]).flat_map(|text| names(text)).collect();
-        let code: String = part.new.split('"').step_by(2).collect::<Vec<_>>().join("\"");
-        let code = if part.file.ends_with("Answers.antt") { without_goals(&code) } else { code };
-        for name in names(&code) {
-            assert!(known.contains(&name), "{folder}: {}: the file does not know {name}", part.new);
+    let shared =
+        ["lib", "codes", "cells"].map(|name| read(&repository().join(format!("crates/definition/src/{name}.rt"))));
+    for path in must_fail_files() {
+        let (folder, edit) = (path.ancestors().nth(2).expect("a crate").to_path_buf(), replacements(&read(&path)));
+        let brought: String = edit.iter().filter(|part| part.new.starts_with("use ")).map(|part| &*part.new).collect();
+        for part in edit.iter().filter(|part| !part.new.starts_with("use ")) {
+            let source = read(&folder.join(&part.file));
+            let known: Vec<&str> = shared.iter().chain([&source, &brought]).flat_map(|text| names(text)).collect();
+            let code: String = part.new.split('"').step_by(2).collect::<Vec<_>>().join("\"");
+            let code = if part.file.ends_with("Answers.antt") { without_goals(&code) } else { code };
+            for name in names(&code).into_iter().filter(|name| !KNOWN_WORDS.contains(name)) {
+                assert!(known.contains(&name), "{}: {}: the file does not know {name}", path.display(), part.new);
+            }
         }
     }
 }
 
 /// Those that turn a condition whose goals are named after a call or a loop, and so keep their names.
-const NAMED_OTHERWISE: [&str; 4] = [
-    "marks/must-fail/code_name_not_compared.edit",
-    "plain/must-fail/code_not_first.edit",
-    "text/must-fail/late_misspelled.edit",
+const NAMED_OTHERWISE: [&str; 11] = [
+    "apply/must-fail/code_name_kept_at_an_end.edit",
+    "definition/must-fail/entry_of_another_kind.edit",
+    "definition/must-fail/list_of_another_kind.edit",
+    "definition/must-fail/owner_of_another_kind.edit",
+    "elements/must-fail/code_else_for_elseif.edit",
+    "keys/must-fail/key_misspelled.edit",
+    "reading/must-fail/kind_of_another.edit",
+    "rows/must-fail/place_next.edit",
+    "settle/must-fail/code_fifteen_too_early.edit",
+    "words/must-fail/star_alone_goes.edit",
     "written/must-fail/exact_fit_refused.edit",
 ];
 
@@ -169,8 +180,8 @@ const NAMED_OTHERWISE: [&str; 4] = [
 fn edits_of_conditions_bring_their_proofs() {
     let turns = |part: &Replacement| ["if ", "while ", "=>"].iter().any(|word| part.old.contains(word));
     let mut others = Vec::new();
-    for path in edit_files().iter().filter(|path| path.parent().is_some_and(|folder| folder.ends_with("must-fail"))) {
-        let parts = replacements(&read(path));
+    for path in must_fail_files() {
+        let parts = replacements(&read(&path));
         let in_code = parts.iter().any(|part| part.file.starts_with("src/") && turns(part));
         if in_code && !parts.iter().any(|part| part.file.starts_with("proofs/")) {
             others.push(path.strip_prefix(repository().join("crates")).expect("below crates").display().to_string());
@@ -180,12 +191,27 @@ fn edits_of_conditions_bring_their_proofs() {
     assert_eq!(others, NAMED_OTHERWISE);
 }
 
-/// An added or lost operation moves the places that a proof names: it is refused for that.
+/// Those that add or lose an operation of which no answer names the place.
+const MOVE_PLACES: [&str; 3] = [
+    "see/must-fail/if_found_by_depth.edit",
+    "settle/must-fail/code_fifteen_too_early.edit",
+    "tables/must-fail/code_row_beyond_the_last.edit",
+];
+
+/// An added or lost operation moves the places that a proof names: an edit that leaves the proof as it is would be refused for that. What an arm takes is none.
 #[test]
 fn edits_of_code_keep_its_operations() {
-    for (folder, part) in edits().iter().filter(|(_, part)| part.file.starts_with("src/")) {
-        assert_eq!(operations(&part.old), operations(&part.new), "{folder}: {}", part.new);
+    let done = |code: &str| operations(code.split_once("=>").map_or(code, |(_, done)| done));
+    let mut others = Vec::new();
+    for path in must_fail_files() {
+        let parts = replacements(&read(&path));
+        let moves = |part: &Replacement| part.file.starts_with("src/") && done(&part.old) != done(&part.new);
+        if parts.iter().any(moves) && !parts.iter().any(|part| part.file.starts_with("proofs/")) {
+            others.push(path.strip_prefix(repository().join("crates")).expect("below crates").display().to_string());
+        }
     }
+    others.sort();
+    assert_eq!(others, MOVE_PLACES);
 }
 
 /// docs/SCOPE.md: `path: name, name` or a path alone.
@@ -211,7 +237,7 @@ fn every_sentence_cites_what_is_there() {
 #[test]
 fn crates_depend_on_what_they_name() {
     let crates = listed_crates();
-    let known: BTreeSet<String> = crates.keys().cloned().collect();
+    let known: BTreeSet<String> = crates.keys().chain(crates.values().flatten()).cloned().collect();
     for (name, listed) in &crates {
         assert_eq!(*listed, named_crates(name, &known), "crates.txt: {name}");
     }

@@ -1,10 +1,10 @@
-use Rattle.fill.specs.Fill.{fills, fill_from, shaped_by}
-use lib.ListN.{drop}
-use mathlib.Core.Path.{ap, ◌∙◌}
-use Prim.Native.Nat.{ℕ}
+use Rattle.std.proofs.Common.{◌∙◌, sym, ap, drop}
+use Rattle.fill.specs.Fill.{shaped_by, fill_all, fills, start_of}
+use Rattle.fill.proofs.Laws.{from_shape}
 use Rattle.fill.proofs.fill.Goals as goal
 
--- src/lib.rt:237:1
 pub returns : goal.returns
-unfolding shaped_by fills
-returns c = c.fill_from.ensures ∙ ap (λ (k : ℕ). fill_from c.args.t.now (drop k fills) c.args.row.now) c.start_of-start.ensures
+unfolding shaped_by
+returns c =
+    c.fill_all.ensures ∙ ap (λ z. fill_all c.args.t.now z c.args.row.now) c.fillings.ensures
+    ∙ sym (from_shape c.args.t.now (drop (start_of c.args.tag c.args.shape) fills) c.args.row.now)

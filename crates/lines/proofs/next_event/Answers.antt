@@ -6,13 +6,13 @@ use Rattle.lines.proofs.next_event.Goals as goal
 pub loop-i-init : goal.loop-i-init
 loop-i-init c = (line_ended_at _ _ c.line_end-i.ensures, event_line _ _ c.line_end-i.ensures)
 
-pub returns-then-begins_event : goal.returns-then-begins_event
+pub returns-then-begins : goal.returns-then-begins
 unfolding str
-returns-then-begins_event c = event_stop _ c.loop-i.i c.loop-i-test.true c.loop-i.invariant.0 c.begins_event.ensures c.if-begins_event.true ∙ c.loop-i.invariant.1
+returns-then-begins c = event_stop _ c.loop-i.i c.loop-i-test.true c.loop-i.invariant.0 c.begins.ensures c.if-begins.true ∙ c.loop-i.invariant.1
 
 pub loop-i-preserved : goal.loop-i-preserved
 unfolding str
-loop-i-preserved c = (line_ended_at _ _ c.line_end-i-in-loop-i.ensures, event_line _ _ c.line_end-i-in-loop-i.ensures ∙ event_more _ c.loop-i.i c.loop-i-test.true c.loop-i.invariant.0 c.begins_event.ensures c.if-begins_event.false ∙ c.loop-i.invariant.1)
+loop-i-preserved c = (line_ended_at _ _ c.line_end-i-in-loop-i.ensures, event_line _ _ c.line_end-i-in-loop-i.ensures ∙ event_more _ c.loop-i.i c.loop-i-test.true c.loop-i.invariant.0 c.begins.ensures c.if-begins.false ∙ c.loop-i.invariant.1)
 
 pub returns : goal.returns
 returns c = event_none _ c.loop-i.i c.loop-i-test.false ∙ c.loop-i.invariant.1

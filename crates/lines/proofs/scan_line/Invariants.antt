@@ -1,12 +1,10 @@
-use Rattle.lines.specs.Escapes.{counted, scanned}
+use Rattle.std.proofs.Common.{◌≡◌, ◌≤◌, ◌+◌, length}
 use Rattle.definition.specs.Event.{legible}
-use lib.ListN.{length, drop}
-use mathlib.Core.Path.{◌≡◌}
-use Prim.Native.Nat.{◌≤◌, ◌-◌}
+use Rattle.lines.specs.Escapes.{counted, scanned}
 use Rattle.lines.proofs.scan_line.Given as goal
 
-abbrev pub invariant-loop-i : goal.invariant-loop-i
-invariant-loop-i l = ((l.n ≤ l.i) × (l.i ≤ length l.raw)) × (counted l.n (legible (drop l.i l.raw)) ≡ scanned l.raw)
+abbrev pub invariant-loop-left : goal.invariant-loop-left
+invariant-loop-left l = (counted l.n (legible l.rest) ≡ scanned l.raw) × (l.n + length l.rest ≤ length l.raw)
 
-abbrev pub decreases-loop-i : goal.decreases-loop-i
-decreases-loop-i l = length l.raw - l.i
+abbrev pub decreases-loop-left : goal.decreases-loop-left
+decreases-loop-left l = length l.rest

@@ -1,32 +1,34 @@
-use Rattle.lines.proofs.LineLaws.{line_end}
-use Rattle.lines.proofs.BlockLaws.{line_past, ends_in_lem, all_on, all_up, tail_unknown, tail_plain}
-use Rattle.lines.specs.Blocks.{all, is_plain}
+use Rattle.std.proofs.Common.{ℕ, List, ◌≡◌, ◌≤◌, ap, length, ◌∙◌, ◌+◌, ◌-◌, sym, take, drop, arith}
+use Rattle.std.proofs.Math.ListN.{length-drop}
+use Rattle.lines.specs.Lines.{line_length}
 use Rattle.lines.specs.Parts.{part}
-use borrow.Author.Tests.{not-true, not-false}
-use native.Mathlib.Omega.{arith}
-use mathlib.Core.Bool.{not}
-use mathlib.Core.Path.{ap, ◌≡◌, refl, sym, ◌∙◌}
-use Prim.Native.Nat.{◌-◌}
+use Rattle.lines.specs.Blocks.{is_text, is_plain, all}
+use Rattle.lines.proofs.BlockLaws.{tail_end, tail_fits, tail_plain, block_plain, rest_is}
 use Rattle.lines.proofs.tail_of.Goals as goal
 
-pub returns-then-raw-from : goal.returns-then-raw-from
-returns-then-raw-from c = let r = tail_unknown _ _ _ _ (line_end _ _ c.if-raw-from.true) c.tail_to.ensures in record { at = r.0; plain = r.1 }
+pub overflow_add-result-2 : goal.overflow_add-result-2
+overflow_add-result-2 c =
+    let r : List ℕ = take (length c.after-line.result.now - c.passed-k.result) (drop c.passed-k.result c.after-line.result.now) in
+    let h : c.args.from + c.passed-k.result + line_length r ≤ c.args.from + length c.after-line.result.now = tail_fits c.args.raw.now c.after-line.result.now _ c.args.from c.passed-k.result c.after-line.ensures (rest_is c.passed-k.result c.after-line.result.now) c.passed-k.ensures.within (c.passed-k.ensures.passed is_text (λ b r e. e)) in
+    omega (arith, c.line_length.ensures, ap length c.after-line.ensures, length-drop c.args.from c.args.raw.now)
 
-pub loop-i-init : goal.loop-i-init
-unfolding part all
-loop-i-init c = ((omega arith, omega arith), (refl, let z : c.args.from - c.args.from ≡ 0 = omega arith in rw z refl))
+pub returns-then-rest-ge-BLOCK-clause-at : goal.returns-then-rest-ge-BLOCK-clause-at
+returns-then-rest-ge-BLOCK-clause-at c =
+    ap (λ (n : ℕ). c.args.from + c.passed-k.result + n) c.line_length.ensures
+    ∙ tail_end c.args.raw.now c.after-line.result.now _ c.args.from c.passed-k.result c.after-line.ensures (rest_is c.passed-k.result c.after-line.result.now) c.passed-k.ensures.within (c.passed-k.ensures.passed is_text (λ b r e. e))
 
-pub returns-then-not-is_block_plain : goal.returns-then-not-is_block_plain
-returns-then-not-is_block_plain c = let r = tail_unknown _ _ _ _ (c.line_end.ensures ∙ c.loop-i.invariant.1.0) c.tail_to-then-not-is_block_plain.ensures in record { at = r.0; plain = r.1 }
+pub returns-then-rest-ge-BLOCK-clause-plain : goal.returns-then-rest-ge-BLOCK-clause-plain
+unfolding part
+returns-then-rest-ge-BLOCK-clause-plain c =
+    λ h.
+    let r : take (length c.after-line.result.now - c.passed-k.result) (drop c.passed-k.result c.after-line.result.now) ≡ drop c.passed-k.result c.after-line.result.now = rest_is c.passed-k.result c.after-line.result.now in
+    tail_plain c.args.raw.now c.after-line.result.now _ c.args.from c.passed-k.result c.after-line.ensures (rest_is c.passed-k.result c.after-line.result.now) c.passed-k.ensures.within (c.passed-k.ensures.passed is_text (λ b r e. e)) (
+    block_plain 8 _
+    (sym (c.all_of.ensures is_plain (λ b r e. e)) ∙ h)
+    (ap (λ (l : List ℕ). all is_text (take 8 l)) r ∙ c.passed-k.ensures.stopped is_text (λ b r e. e) (omega (arith, ap length r, length-drop c.passed-k.result c.after-line.result.now)))
+    )
 
-pub end_in-requires : goal.end_in-requires
-end_in-requires c = (ends_in_lem _ _ 8 (omega arith) (sym c.is_block_within_line.ensures ∙ not-true _ (ap not c.if-not-is_block_within_line.true))).1
-
-pub returns-then-not-is_block_within_line : goal.returns-then-not-is_block_within_line
-returns-then-not-is_block_within_line c = let r = tail_plain _ _ _ _ (c.end_in.ensures ∙ c.loop-i.invariant.1.0) c.tail_to-then-not-is_block_within_line.ensures (all_up is_plain _ _ _ 8 (omega arith) c.loop-i.invariant.1.1 (sym c.is_block_plain.ensures ∙ not-false _ (ap not c.if-not-is_block_plain.false)) _ (omega (arith, c.loop-i.invariant.1.0, (ends_in_lem _ _ 8 (omega arith) (sym c.is_block_within_line.ensures ∙ not-true _ (ap not c.if-not-is_block_within_line.true))).0))) in record { at = r.0; plain = r.1 }
-
-pub loop-i-preserved : goal.loop-i-preserved
-loop-i-preserved c = ((omega arith, omega arith), (line_past _ _ _ (omega arith) (sym c.is_block_within_line.ensures ∙ not-false _ (ap not c.if-not-is_block_within_line.false)) ∙ c.loop-i.invariant.1.0, all_on is_plain _ _ _ 8 (omega arith) c.loop-i.invariant.1.1 (sym c.is_block_plain.ensures ∙ not-false _ (ap not c.if-not-is_block_plain.false))))
-
-pub returns : goal.returns
-returns c = let r = tail_unknown _ _ _ _ (c.end_near.ensures ∙ c.loop-i.invariant.1.0) c.tail_to-2.ensures in record { at = r.0; plain = r.1 }
+pub returns-else-rest-ge-BLOCK-clause-at : goal.returns-else-rest-ge-BLOCK-clause-at
+returns-else-rest-ge-BLOCK-clause-at c =
+    ap (λ (n : ℕ). c.args.from + c.passed-k.result + n) c.line_length.ensures
+    ∙ tail_end c.args.raw.now c.after-line.result.now _ c.args.from c.passed-k.result c.after-line.ensures (rest_is c.passed-k.result c.after-line.result.now) c.passed-k.ensures.within (c.passed-k.ensures.passed is_text (λ b r e. e))

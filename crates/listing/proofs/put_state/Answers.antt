@@ -4,30 +4,9 @@ use Rattle.definition.specs.Text.{str}
 use Rattle.definition.specs.Rows.{text_at, cell_at}
 use Rattle.listing.specs.Listing.{state_lines, name_of}
 use mathlib.Core.List.{List}
-use mathlib.Core.Path.{◌∙◌, ap}
+use mathlib.Core.Path.{ap}
 use Prim.Native.Nat.{ℕ}
 use Rattle.listing.proofs.put_state.Goals as goal
-
-pub put_cell_line-a-requires : goal.put_cell_line-a-requires
-put_cell_line-a-requires c = c.requires
-
-pub put_name_line-b-requires : goal.put_name_line-b-requires
-put_name_line-b-requires c = c.put_cell_line-a.ensures.within
-
-pub put_cell_line-c-requires : goal.put_cell_line-c-requires
-put_cell_line-c-requires c = c.put_name_line-b.ensures.within
-
-pub put_cell_line-d-requires : goal.put_cell_line-d-requires
-put_cell_line-d-requires c = c.put_cell_line-c.ensures.within
-
-pub put_cell_line-e-requires : goal.put_cell_line-e-requires
-put_cell_line-e-requires c = c.put_cell_line-d.ensures.within
-
-pub put_list_line-requires : goal.put_list_line-requires
-put_list_line-requires c = c.put_cell_line-e.ensures.within
-
-pub shape_of-out : goal.shape_of-out
-shape_of-out c = c.put_list_line.ensures.long ∙ c.put_cell_line-e.ensures.long ∙ c.put_cell_line-d.ensures.long ∙ c.put_cell_line-c.ensures.long ∙ c.put_name_line-b.ensures.long ∙ c.put_cell_line-a.ensures.long
 
 pub returns : goal.returns
 unfolding state_lines name_of text_at cell_at str

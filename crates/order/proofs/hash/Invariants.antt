@@ -1,11 +1,7 @@
-use lib.ListN.{length, drop}
-use Prim.Native.Nat.{◌-◌, ◌≤◌}
+use lib.ListN.{drop}
 use mathlib.Core.Path.{◌≡◌}
 use Rattle.order.specs.Hash.{hash_from, hash_of}
 use Rattle.order.proofs.hash.Given as goal
 
-abbrev pub invariant-loop-i : goal.invariant-loop-i
-invariant-loop-i l = (l.i ≤ length l.name) × (hash_from l.h (drop l.i l.name) ≡ hash_of l.name)
-
-abbrev pub decreases-loop-i : goal.decreases-loop-i
-decreases-loop-i l = length l.name - l.i
+abbrev pub invariant-loop-b : goal.invariant-loop-b
+invariant-loop-b l = (hash_from l.h (drop l.b-index l.name) ≡ hash_of l.name)

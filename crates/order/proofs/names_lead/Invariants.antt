@@ -1,10 +1,5 @@
-use lib.ListN.{length}
-use Prim.Native.Nat.{◌-◌}
 use Rattle.order.proofs.Laws.{Leading}
 use Rattle.order.proofs.names_lead.Given as goal
 
 abbrev pub invariant-loop-i : goal.invariant-loop-i
 invariant-loop-i l = Leading l.text l.states l.hashes l.i
-
-abbrev pub decreases-loop-i : goal.decreases-loop-i
-decreases-loop-i l = length l.states - l.i

@@ -4,14 +4,11 @@ use native.Mathlib.Omega.{arith}
 use Rattle.payload.proofs.PartLaws.{text_some, text_none, laid_as, laid_empty}
 use Rattle.payload.proofs.append_text.Goals as goal
 
--- src/lib.rt:62:9
 pub put_text-requires : goal.put_text-requires
-put_text-requires c = omega (arith, c.requires, ap length (text_some c.args.src.now c.args.p c.if-p-eq-WHOLE.true _ c.bytes_of-v.ensures.result_value))
+put_text-requires c = omega (arith, c.requires, ap length (text_some c.args.src.now c.args.p c.if-p-ne-WHOLE.false _ c.bytes_of.ensures.result_value))
 
--- src/lib.rt:62:9
-pub returns-then-p-eq-WHOLE : goal.returns-then-p-eq-WHOLE
-returns-then-p-eq-WHOLE c = let r = laid_as c.args.text.now c.args.pos _ _ (sym (text_some c.args.src.now c.args.p c.if-p-eq-WHOLE.true _ c.bytes_of-v.ensures.result_value)) _ _ (c.put_text.ensures.value, c.put_text.ensures.text_after) in record { value = r.0; text_after = r.1 }
-
--- src/lib.rt:52:1
 pub returns : goal.returns
-returns c = let r = laid_empty c.args.text.now c.args.pos _ (text_none c.args.src.now c.args.p c.if-p-eq-WHOLE.false) in record { value = r.0; text_after = r.1 }
+returns c = let r = laid_as c.args.text.now c.args.pos _ _ (sym (text_some c.args.src.now c.args.p c.if-p-ne-WHOLE.false _ c.bytes_of.ensures.result_value)) _ _ (c.put_text.ensures.value, c.put_text.ensures.text_after) in record { value = r.0; text_after = r.1 }
+
+pub returns-then-p-ne-WHOLE : goal.returns-then-p-ne-WHOLE
+returns-then-p-ne-WHOLE c = let r = laid_empty c.args.text.now c.args.pos _ (text_none c.args.src.now c.args.p c.if-p-ne-WHOLE.true) in record { value = r.0; text_after = r.1 }

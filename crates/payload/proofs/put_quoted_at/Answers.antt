@@ -5,13 +5,11 @@ use native.Mathlib.Omega.{arith}
 use Rattle.payload.proofs.PartLaws.{written_length_lem, written_laid}
 use Rattle.payload.proofs.put_quoted_at.Goals as goal
 
--- src/lib.rt:27:5
 pub overflow_add-result : goal.overflow_add-result
-overflow_add-result c = omega (arith, written_length_lem c.args.text.now c.args.pos (quoted c.args.v.now) c.requires _ c.put_quoted-n.ensures.value, c.requires)
+overflow_add-result c = omega (arith, written_length_lem c.args.text.now c.args.pos (quoted c.args.v.now) c.requires _ c.put_quoted.ensures.value, c.requires)
 
--- src/lib.rt:21:1
 pub returns-clause-value : goal.returns-clause-value
-returns-clause-value c = ap (λ (n : ℕ). c.args.pos + n) (written_length_lem c.args.text.now c.args.pos (quoted c.args.v.now) c.requires _ c.put_quoted-n.ensures.value)
+returns-clause-value c = ap (λ (n : ℕ). c.args.pos + n) (written_length_lem c.args.text.now c.args.pos (quoted c.args.v.now) c.requires _ c.put_quoted.ensures.value)
 
 pub returns-clause-text_after : goal.returns-clause-text_after
-returns-clause-text_after c = written_laid c.args.text.now c.args.pos (quoted c.args.v.now) c.requires _ c.put_quoted-n.ensures.out_after
+returns-clause-text_after c = written_laid c.args.text.now c.args.pos (quoted c.args.v.now) c.requires _ c.put_quoted.ensures.out_after

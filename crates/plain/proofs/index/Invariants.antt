@@ -2,7 +2,4 @@ use Rattle.plain.proofs.KeyLaws.{Indexing}
 use Rattle.plain.proofs.index.Given as goal
 
 abbrev pub invariant-loop-i : goal.invariant-loop-i
-invariant-loop-i l = Indexing l.src l.slots l.count l.there l.at l.len l.total l.i
-
-abbrev pub decreases-loop-i : goal.decreases-loop-i
-decreases-loop-i l = l.i
+invariant-loop-i l = Indexing l.src l.p.slots l.p.count l.there l.at l.len l.total l.i

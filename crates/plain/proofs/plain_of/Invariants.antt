@@ -1,10 +1,6 @@
 use Rattle.plain.proofs.Laws.{Filling}
 use Rattle.parts.specs.Parts.{pairs_of}
-use Prim.Native.Nat.{◌-◌}
 use Rattle.plain.proofs.plain_of.Given as goal
 
 abbrev pub invariant-loop-i : goal.invariant-loop-i
-invariant-loop-i l = Filling (pairs_of l.pairs) l.count l.initial.plain l.slots l.plain l.i
-
-abbrev pub decreases-loop-i : goal.decreases-loop-i
-decreases-loop-i l = l.n - l.i
+invariant-loop-i l = Filling (pairs_of l.pairs) l.d.count l.initial.plain l.slots l.plain l.i

@@ -1,3 +1,4 @@
+use native.Mathlib.Omega.{arith}
 use Rattle.plain.proofs.ValueLaws.{part_short}
 use Rattle.plain.specs.Keyed.{keyed_bytes}
 use Rattle.lines.specs.Parts.{part}
@@ -6,8 +7,8 @@ use Rattle.plain.proofs.value.Goals as goal
 
 pub returns-clause-result_value : goal.returns-clause-result_value
 unfolding keyed_bytes
-returns-clause-result_value c = c.part_of.ensures ∙ ap₂ (part c.args.src.now) c.place-at.ensures.value c.place-len.ensures.value
+returns-clause-result_value c = c.part_of.ensures ∙ ap₂ (part c.args.src.now) c.from.ensures c.from-2.ensures
 
 pub returns-clause-result_len_bound : goal.returns-clause-result_len_bound
 unfolding keyed_bytes
-returns-clause-result_len_bound c = part_short c.args.src.now c.place-at.result c.place-len.result c.place-len.ensures.upper_bound _ c.part_of.ensures
+returns-clause-result_len_bound c = part_short c.args.src.now c.from.result c.from-2.result (omega (arith, c.from-2.ensures)) _ c.part_of.ensures

@@ -9,4 +9,4 @@ pub returns-then-b-eq92 : goal.returns-then-b-eq92
 returns-then-b-eq92 c = added_is (sym (escape_slash _ c.if-b-eq92.true)) c.put_bytes-then-b-eq92.ensures
 
 pub returns : goal.returns
-returns c = added_is (sym (escape_other _ c.if-b-eq10.false c.if-b-eq92.false)) c.put_byte.ensures
+returns c = added_is (sym (escape_other _ c.if-b-eq10.false c.if-b-eq92.false)) c.put_bytes-2.ensures

@@ -1,19 +1,37 @@
-use Rattle.printing.proofs.Laws.{begun_at, goes_on, ended, item, items_end, items_all}
-use mathlib.Core.Path.{refl, ◌∙◌}
-use borrow.Author.Rules.{rules}
+use mathlib.Core.Path.{refl, subst, ◌∙◌}
+use mathlib.Core.List.{List}
+use Prim.Native.Nat.{ℕ}
+use native.Mathlib.Omega.{arith}
+use Rattle.definition.specs.Rows.{same_list}
+use Rattle.printing.specs.Added.{Begun}
+use Rattle.printing.specs.Lines.{spaced, numbers_of}
+use Rattle.printing.proofs.Laws.{begun, goes_on, ended, item, no_item, items_end}
 use Rattle.printing.proofs.put_list.Goals as goal
+use Rattle.printing.proofs.put_list.Goals.{then-row-list, else-row-list}
 
-pub loop-i-init : goal.loop-i-init
-loop-i-init c = ((search rules, refl), (c.next_member-i.ensures.result_value, begun_at (items_all c.args.list c.args.owner c.args.members.now c.next_member-i.result c.next_member-i.ensures.members_value) c.requires))
+pub loop-row-init : goal.loop-row-init
+unfolding spaced
+loop-row-init c = ((c.requires, refl), begun _ _ _ c.requires)
 
 pub put_item-p-requires : goal.put_item-p-requires
-put_item-p-requires c = c.loop-i.invariant.0.0
+put_item-p-requires c = c.loop-row.invariant.0.0
 
-pub loop-i-preserved : goal.loop-i-preserved
-loop-i-preserved c = ((c.put_item-p.ensures.within, c.put_item-p.ensures.long ∙ c.loop-i.invariant.0.1), (c.next_member-i-in-loop-i.ensures.result_value, goes_on c.loop-i.invariant.1.1 (item c.args.list c.args.owner c.args.members.now c.loop-i.i c.loop-i.first c.wide.result c.next_member-i-in-loop-i.result c.loop-i-test.true (c.loop-i.invariant.1.0 c.loop-i-test.true) c.wide.ensures c.next_member-i-in-loop-i.ensures.members_value) c.put_item-p.ensures))
-
-pub shape_of-out : goal.shape_of-out
-shape_of-out c = c.loop-i.invariant.0.1
+pub loop-row-preserved : goal.loop-row-preserved
+unfolding same_list
+loop-row-preserved c =
+    elim c.if-row-list.branch [
+      | then-row-list w ↦
+          rw (w.out-is, w.p-is, w.first-is) (
+            (w.put_item-p.ensures.within, w.put_item-p.ensures.long ∙ c.loop-row.invariant.0.1),
+            goes_on c.loop-row.invariant.1 (item c.args.list c.args.owner c.args.members.now c.loop-row.row-index c.loop-row.first _ c.loop-row-test.true w.if-row-list.true w.from.ensures) w.put_item-p.ensures,
+          )
+      | else-row-list w ↦
+          rw (w.out-is, w.p-is, w.first-is) (
+            c.loop-row.invariant.0,
+            subst (λ (x : List ℕ). Begun c.args.out.now c.args.at c.loop-row.out c.loop-row.p x (spaced (numbers_of c.args.list c.args.owner c.args.members.now)))
+                (no_item c.args.list c.args.owner c.args.members.now c.loop-row.row-index c.loop-row.first c.loop-row-test.true w.if-row-list.false) c.loop-row.invariant.1,
+          )
+    ]
 
 pub returns : goal.returns
-returns c = ended c.loop-i.invariant.1.1 (items_end c.args.list c.args.owner c.args.members.now c.loop-i.i c.loop-i.first c.loop-i-test.false)
+returns c = ended c.loop-row.invariant.1 (items_end c.args.list c.args.owner c.args.members.now c.loop-row.row-index c.loop-row.first (omega arith))

@@ -1,11 +1,11 @@
 use mathlib.Core.Path.{◌∙◌}
-use Rattle.definition.specs.Rows.{num, row_of}
+use Rattle.std.proofs.lemmas.Result.{err_from_is_err_and}
 use Rattle.rows.proofs.Laws.{there}
 use Rattle.reading.proofs.Laws.{at_none, at_some}
 use Rattle.reading.proofs.entry_at.Goals as goal
 
-pub returns-then-place-eq0 : goal.returns-then-place-eq0
-returns-then-place-eq0 c = c.refuse.ensures ∙ at_none _ _ c.args.place _ c.if-place-eq0.true
+pub returns-in_err-row : goal.returns-in_err-row
+returns-in_err-row c = let p = err_from_is_err_and c.from_residual.result c.from_residual.ensures.1 in rw (p.1, p.2, c.in_err-row.ensures.0) (at_none _ _ _ _ c.in_err-row.ensures.1)
 
 pub returns : goal.returns
-returns c = rw (there c.args.entries.now c.args.place c.if-place-eq0.false) (rw (there c.args.entries.now c.args.place c.if-place-eq0.false) at (at_some c.args.states.now (num (row_of c.args.entries.now c.args.place) 2) c.args.place c.args.entries.now c.if-place-eq0.false (c.show_48-row.ensures ∙ rw (there c.args.entries.now c.args.place c.if-place-eq0.false))))
+returns c = at_some _ _ c.args.place c.args.entries.now c.in_ok-row.ensures.0 (c.show_named.ensures ∙ rw (there c.args.entries.now c.args.place c.in_ok-row.ensures.0, c.in_ok-row.ensures.1))

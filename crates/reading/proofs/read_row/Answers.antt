@@ -1,12 +1,23 @@
-use mathlib.Core.Path.{sym, ◌∙◌}
+use mathlib.Core.Path.{refl, sym, ◌∙◌}
+use Rattle.std.proofs.lemmas.Result.{err_from_is_err_and}
 use Rattle.definition.specs.Reader.{store_of, taken, counts}
-use Rattle.questions.specs.Lent.{tables, lent}
-use Rattle.reading.proofs.Calls.{read_refused, read_asked}
+use Rattle.rows.specs.Lent.{seen_of}
+use Rattle.reading.proofs.Calls.{read_refused, read_asked, some_number}
+use Rattle.reading.proofs.Laws.{no_kind}
 use Rattle.reading.proofs.read_row.Goals as goal
 
-pub returns-then-first-ne0 : goal.returns-then-first-ne0
-returns-then-first-ne0 c = c.refuse.ensures ∙ read_refused (lent (tables c.args.chart.now c.args.states.now c.args.transitions.now c.args.regions.now c.args.entries.now c.args.invokes.now c.args.datums.now c.args.parameters.now c.args.members.now c.args.opened.now c.args.open_names.now c.args.open_regions.now) c.args.text.now) c.args.p c.args.kind c.args.number c.asked-first.ensures c.if-first-ne0.true
+pub returns-in_err-asked : goal.returns-in_err-asked
+returns-in_err-asked c =
+    let p = err_from_is_err_and c.from_residual.result c.from_residual.ensures.1 in rw (p.1, p.2) (read_refused _ _ _ _ c.in_err-asked.ensures (some_number c.in_err-asked.field-0.0))
+
+pub returns-in_err-kind : goal.returns-in_err-kind
+returns-in_err-kind c =
+    let p = err_from_is_err_and c.from_residual-in_err-kind.result c.from_residual-in_err-kind.ensures.1 in
+    rw (p.1, p.2, c.in_err-kind.ensures.0) (no_kind (store_of (seen_of c.args.tables) c.args.p).numbers c.args.kind c.args.number c.in_err-kind.ensures.1 ∙ read_asked _ _ _ _ c.in_ok-asked.ensures refl)
 
 pub returns : goal.returns
 unfolding store_of taken counts
-returns c = c.read.ensures (store_of (lent (tables c.args.chart.now c.args.states.now c.args.transitions.now c.args.regions.now c.args.entries.now c.args.invokes.now c.args.datums.now c.args.parameters.now c.args.members.now c.args.opened.now c.args.open_names.now c.args.open_regions.now) c.args.text.now) c.args.p).numbers (sym c.first_24.ensures) (sym c.first_24-2.ensures) (sym c.first_8.ensures) (sym c.first_8-2.ensures) (sym c.first_48.ensures) (sym c.first_24-3.ensures) (sym c.first_8-3.ensures) (sym c.first_8-4.ensures) (sym c.first_8-5.ensures) ∙ read_asked (lent (tables c.args.chart.now c.args.states.now c.args.transitions.now c.args.regions.now c.args.entries.now c.args.invokes.now c.args.datums.now c.args.parameters.now c.args.members.now c.args.opened.now c.args.open_names.now c.args.open_regions.now) c.args.text.now) c.args.p c.args.kind c.args.number c.asked-first.ensures c.if-first-ne0.false
+returns c =
+    c.read.ensures (store_of (seen_of c.args.tables) c.args.p).numbers (sym c.in_use.ensures.chart) (sym c.in_use.ensures.states) (sym c.in_use.ensures.transitions) (sym c.in_use.ensures.regions)
+    (sym c.in_use.ensures.entries) (sym c.in_use.ensures.invokes) (sym c.in_use.ensures.datums) (sym c.in_use.ensures.parameters) (sym c.in_use.ensures.members)
+    ∙ rw c.in_ok-kind.ensures (read_asked _ _ _ _ c.in_ok-asked.ensures refl)

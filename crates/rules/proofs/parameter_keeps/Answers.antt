@@ -1,5 +1,5 @@
 use Rattle.columns.proofs.Columns.{all, columns_all, texts_of, past_texts, ending}
-use Rattle.columns.specs.Sees.{zeros_from}
+use Rattle.columns.specs.Cells.{zeros_from}
 use Rattle.definition.specs.Elements.{plain, masked}
 use native.Mathlib.Omega.{arith}
 use mathlib.Core.List.{[], ◌∷◌}

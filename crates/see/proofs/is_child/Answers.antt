@@ -1,19 +1,29 @@
-use Rattle.see.proofs.Nexts.{with_met, with_there, child_next, child_this, child_later, child_no}
-use Rattle.definition.specs.Rows.{same_list}
-use mathlib.Core.Path.{◌∙◌}
-use Prim.Native.Nat.{◌+◌}
+use native.Mathlib.Omega.{arith}
+use Rattle.std.proofs.Common.{◌∙◌, sym, length}
+use Rattle.see.proofs.Nexts.{with_met, with_there, child_next, child_this, child_later, child_no, same_yes, same_not, same_other}
 use Rattle.see.proofs.is_child.Goals as goal
-
-pub loop-i-init : goal.loop-i-init
-loop-i-init c = ((c.next_with-i.ensures.upper_bound, with_met 2 c.args.s.0 c.args.members.now 0 _ c.next_with-i.ensures.value), child_next c.args.members.now 0 _ c.args.p.0 c.args.s.0 c.next_with-i.ensures.value)
+use Rattle.see.proofs.is_child.Goals.{else-members-i-eq-CHILDREN-via-then-members-i-eq-CHILDREN+else-members-i, else-members-i-eq-CHILDREN-via-else-members-i-eq-CHILDREN}
 
 pub returns-then-members-i : goal.returns-then-members-i
-unfolding same_list
-returns-then-members-i c = child_this c.args.p.0 c.args.s.0 c.args.members.now c.loop-i.i c.loop-i-test.true (with_there 2 c.args.s.0 c.args.members.now c.loop-i.i c.loop-i-test.true c.loop-i.invariant.0.1) c.if-members-i.true ∙ c.loop-i.invariant.1
+returns-then-members-i c =
+    let z = c.in-Some.ensures in
+    child_this c.args.p.0 c.args.s.0 c.args.members.now c.in-Some.i z.0
+    (with_there 2 c.args.s.0 c.args.members.now c.in-Some.i z.0 (with_met 2 c.args.s.0 c.args.members.now c.loop-i.from c.in-Some.i z.1)) (same_yes _ c.args.p.0 c.if-members-i-eq-CHILDREN.true c.if-members-i.true)
+    ∙ child_next c.args.members.now c.loop-i.from c.in-Some.i c.args.p.0 c.args.s.0 z.1 ∙ c.loop-i.invariant.1
 
 pub loop-i-preserved : goal.loop-i-preserved
-unfolding same_list
-loop-i-preserved c = ((c.next_with-i-in-loop-i.ensures.upper_bound, with_met 2 c.args.s.0 c.args.members.now (c.loop-i.i + 1) _ c.next_with-i-in-loop-i.ensures.value), child_next c.args.members.now (c.loop-i.i + 1) _ c.args.p.0 c.args.s.0 c.next_with-i-in-loop-i.ensures.value ∙ child_later c.args.p.0 c.args.s.0 c.args.members.now c.loop-i.i c.loop-i-test.true c.if-members-i.false ∙ c.loop-i.invariant.1)
+loop-i-preserved c =
+    let z = c.in-Some.ensures in (
+      omega (arith, z.0),
+      child_later c.args.p.0 c.args.s.0 c.args.members.now c.in-Some.i z.0 (
+          elim c.else-members-i-eq-CHILDREN.branch [
+            | else-members-i-eq-CHILDREN-via-then-members-i-eq-CHILDREN+else-members-i w ↦ same_not _ c.args.p.0 w.if-members-i-eq-CHILDREN.true w.if-members-i.false
+            | else-members-i-eq-CHILDREN-via-else-members-i-eq-CHILDREN w ↦ same_other _ c.args.p.0 w.if-members-i-eq-CHILDREN.false
+          ])
+          ∙ child_next c.args.members.now c.loop-i.from c.in-Some.i c.args.p.0 c.args.s.0 z.1 ∙ c.loop-i.invariant.1,
+    )
 
 pub returns : goal.returns
-returns c = child_no c.args.p.0 c.args.s.0 c.args.members.now c.loop-i.i c.loop-i-test.false ∙ c.loop-i.invariant.1
+returns c =
+    child_no c.args.p.0 c.args.s.0 c.args.members.now (length c.args.members.now) (omega arith)
+    ∙ child_next c.args.members.now c.loop-i.from (length c.args.members.now) c.args.p.0 c.args.s.0 (sym c.in_default.ensures) ∙ c.loop-i.invariant.1

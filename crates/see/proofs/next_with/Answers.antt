@@ -1,23 +1,17 @@
-use mathlib.Core.Bool.{not}
-use Rattle.see.proofs.Nexts.{block_past}
 use native.Mathlib.Omega.{arith}
-use mathlib.Core.Path.{ap, refl, ◌∙◌}
+use Rattle.std.proofs.Common.{◌∙◌}
+use Rattle.see.proofs.Nexts.{found_some, found_none, block_past}
 use Rattle.see.proofs.next_with.Goals as goal
 
-pub loop-i-init : goal.loop-i-init
-loop-i-init c = (omega (arith, c.requires.1), refl)
-
-pub returns-then-not-is_block_without-clause-value : goal.returns-then-not-is_block_without-clause-value
-returns-then-not-is_block_without-clause-value c = c.next_near.ensures.value ∙ c.loop-i.invariant.1
-
-pub returns-then-not-is_block_without-clause-upper_bound : goal.returns-then-not-is_block_without-clause-upper_bound
-returns-then-not-is_block_without-clause-upper_bound c = c.next_near.ensures.upper_bound
-
 pub loop-i-preserved : goal.loop-i-preserved
-loop-i-preserved c = (omega (arith, c.loop-i-test.true, c.loop-i.invariant.0), block_past c.args.c c.args.v c.args.members.now c.loop-i.i 8 _ _ c.is_block_without.ensures (ap not c.if-not-is_block_without.false) c.loop-i.invariant.1)
+loop-i-preserved c =
+    (omega (arith, c.loop-i.invariant.0), block_past c.args.c c.args.v c.args.members.now c.loop-i.i 8 (omega (arith, c.loop-i.invariant.0)) c.if-not-has.ensures ∙ c.loop-i.invariant.1)
 
-pub returns-clause-value : goal.returns-clause-value
-returns-clause-value c = c.next_near-2.ensures.value ∙ c.loop-i.invariant.1
+pub returns : goal.returns
+returns c =
+    let z = found_some c.args.c c.args.v c.args.members.now c.loop-i.i c.in_ok-j.j c.in_ok-j.ensures c.loop-i.invariant.0 in
+    (z.0, omega (arith, z.1, c.loop-i.invariant.1))
 
-pub returns-clause-upper_bound : goal.returns-clause-upper_bound
-returns-clause-upper_bound c = c.next_near-2.ensures.upper_bound
+pub returns-in_err-j : goal.returns-in_err-j
+returns-in_err-j c =
+    rw c.from_residual.ensures (omega (arith, found_none c.args.c c.args.v c.args.members.now c.loop-i.i c.in_err-j.ensures c.loop-i.invariant.0, c.loop-i.invariant.1))

@@ -1,7 +1,5 @@
+use Rattle.std.proofs.Common.{◌≡◌, ◌≤◌, ◌+◌, ◌-◌, length, drop}
 use Rattle.see.specs.Scans.{first_with}
-use mathlib.Core.Path.{◌≡◌}
-use Prim.Native.Nat.{◌+◌, ◌-◌, ◌≤◌}
-use lib.ListN.{length, drop}
 use Rattle.see.proofs.next_with.Given as goal
 
 abbrev pub invariant-loop-i : goal.invariant-loop-i

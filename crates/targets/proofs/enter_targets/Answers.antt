@@ -9,98 +9,62 @@ use Prim.Native.Nat.{ℕ, ◌<◌, ◌≤◌}
 use native.Mathlib.Omega.{arith}
 use Rattle.targets.proofs.enter_targets.Goals as goal
 
--- src/lib.rt:74:15
-pub overflow_add-end : goal.overflow_add-end
-overflow_add-end c = omega (arith, c.requires.inside, c.requires.short)
-
--- src/lib.rt:75:13
 pub slice_bounds-v-count : goal.slice_bounds-v-count
 slice_bounds-v-count c = omega (arith, c.requires.inside, c.requires.short)
 
--- src/lib.rt:75:13
 pub slice_bounds-v-start : goal.slice_bounds-v-start
 slice_bounds-v-start c = omega (arith, c.requires.inside, c.requires.short)
 
--- src/lib.rt:75:13
 pub slice_bounds-v-end : goal.slice_bounds-v-end
 slice_bounds-v-end c = omega (arith, c.requires.inside, c.requires.short)
 
--- src/lib.rt:79:5
 pub loop-at-init : goal.loop-at-init
-loop-at-init c = entering_start c.args.states.now c.args.members.now c.args.text.now c.args.count c.args.used c.args.off c.args.len c.args.owner c.requires
+loop-at-init c = entering_start c.args.states.now c.args.members.now c.args.text.now c.args.rows.states c.args.rows.members c.args.off c.args.len c.args.owner c.requires
 
--- src/lib.rt:84:13
-pub shape_of-states-then-start-stop : goal.shape_of-states-then-start-stop
-shape_of-states-then-start-stop c = c.loop-at.invariant.states.size
+pub returns-then-next : goal.returns-then-next
+returns-then-next c = entering_end c.args.states.now c.args.members.now c.args.text.now c.args.rows.states c.args.rows.members c.args.off c.args.len c.args.owner c.requires c.loop-at.states c.loop-at.members c.loop-at.rows.states c.loop-at.rows.members c.loop-at.at c.loop-at.invariant (words_none _ c.loop-at.at c.next_state_word-next.result (c.next_state_word-next.ensures ∙ ap (λ (y : List ℕ). next_word is_separator y c.loop-at.at) (value c.args.states.now c.args.members.now c.args.text.now c.args.rows.states c.args.rows.members c.args.off c.args.len c.args.owner c.requires)) c.if-next.true)
 
--- src/lib.rt:84:13
-pub shape_of-members-then-start-stop : goal.shape_of-members-then-start-stop
-shape_of-members-then-start-stop c = c.loop-at.invariant.partly.size
-
--- src/lib.rt:84:13
-pub returns-then-start-stop : goal.returns-then-start-stop
-returns-then-start-stop c = entering_end c.args.states.now c.args.members.now c.args.text.now c.args.count c.args.used c.args.off c.args.len c.args.owner c.requires c.loop-at.states c.loop-at.members c.loop-at.n c.loop-at.m c.loop-at.at c.loop-at.invariant (words_none _ c.loop-at.at c.next_state_word-next.result (c.next_state_word-next.ensures ∙ ap (λ (y : List ℕ). next_word is_separator y c.loop-at.at) (value c.args.states.now c.args.members.now c.args.text.now c.args.count c.args.used c.args.off c.args.len c.args.owner c.requires)) c.if-start-stop.true)
-
--- src/lib.rt:86:45
 pub overflow_add-off : goal.overflow_add-off
-overflow_add-off c = omega (arith, name_fits_lem c.args.states.now c.args.members.now c.args.text.now c.args.count c.args.used c.args.off c.args.len c.args.owner c.requires c.loop-at.states c.loop-at.members c.loop-at.n c.loop-at.m c.loop-at.at c.loop-at.invariant c.next_state_word-next.result (c.next_state_word-next.ensures ∙ ap (λ (y : List ℕ). next_word is_separator y c.loop-at.at) (value c.args.states.now c.args.members.now c.args.text.now c.args.count c.args.used c.args.off c.args.len c.args.owner c.requires)) c.if-start-stop.false (subst (λ (y : List ℕ). c.loop-at.at < length y) (value c.args.states.now c.args.members.now c.args.text.now c.args.count c.args.used c.args.off c.args.len c.args.owner c.requires) c.loop-at-test.true), c.requires.short)
+overflow_add-off c = omega (arith, name_fits_lem c.args.states.now c.args.members.now c.args.text.now c.args.rows.states c.args.rows.members c.args.off c.args.len c.args.owner c.requires c.loop-at.states c.loop-at.members c.loop-at.rows.states c.loop-at.rows.members c.loop-at.at c.loop-at.invariant c.next_state_word-next.result (c.next_state_word-next.ensures ∙ ap (λ (y : List ℕ). next_word is_separator y c.loop-at.at) (value c.args.states.now c.args.members.now c.args.text.now c.args.rows.states c.args.rows.members c.args.off c.args.len c.args.owner c.requires)) c.if-next.false (subst (λ (y : List ℕ). c.loop-at.at < length y) (value c.args.states.now c.args.members.now c.args.text.now c.args.rows.states c.args.rows.members c.args.off c.args.len c.args.owner c.requires) c.loop-at-test.true), c.requires.short)
 
--- src/lib.rt:86:58
-pub overflow_sub-stop : goal.overflow_sub-stop
-overflow_sub-stop c = omega (arith, name_fits_lem c.args.states.now c.args.members.now c.args.text.now c.args.count c.args.used c.args.off c.args.len c.args.owner c.requires c.loop-at.states c.loop-at.members c.loop-at.n c.loop-at.m c.loop-at.at c.loop-at.invariant c.next_state_word-next.result (c.next_state_word-next.ensures ∙ ap (λ (y : List ℕ). next_word is_separator y c.loop-at.at) (value c.args.states.now c.args.members.now c.args.text.now c.args.count c.args.used c.args.off c.args.len c.args.owner c.requires)) c.if-start-stop.false (subst (λ (y : List ℕ). c.loop-at.at < length y) (value c.args.states.now c.args.members.now c.args.text.now c.args.count c.args.used c.args.off c.args.len c.args.owner c.requires) c.loop-at-test.true))
+pub overflow_sub-long : goal.overflow_sub-long
+overflow_sub-long c = omega (arith, name_fits_lem c.args.states.now c.args.members.now c.args.text.now c.args.rows.states c.args.rows.members c.args.off c.args.len c.args.owner c.requires c.loop-at.states c.loop-at.members c.loop-at.rows.states c.loop-at.rows.members c.loop-at.at c.loop-at.invariant c.next_state_word-next.result (c.next_state_word-next.ensures ∙ ap (λ (y : List ℕ). next_word is_separator y c.loop-at.at) (value c.args.states.now c.args.members.now c.args.text.now c.args.rows.states c.args.rows.members c.args.off c.args.len c.args.owner c.requires)) c.if-next.false (subst (λ (y : List ℕ). c.loop-at.at < length y) (value c.args.states.now c.args.members.now c.args.text.now c.args.rows.states c.args.rows.members c.args.off c.args.len c.args.owner c.requires) c.loop-at-test.true))
 
--- src/lib.rt:86:13
 pub enter_name-k-requires-clause-text_len_bound : goal.enter_name-k-requires-clause-text_len_bound
 enter_name-k-requires-clause-text_len_bound c = c.requires.short
 
 pub enter_name-k-requires-clause-len_in_bounds : goal.enter_name-k-requires-clause-len_in_bounds
-enter_name-k-requires-clause-len_in_bounds c = (name_fits_lem c.args.states.now c.args.members.now c.args.text.now c.args.count c.args.used c.args.off c.args.len c.args.owner c.requires c.loop-at.states c.loop-at.members c.loop-at.n c.loop-at.m c.loop-at.at c.loop-at.invariant c.next_state_word-next.result (c.next_state_word-next.ensures ∙ ap (λ (y : List ℕ). next_word is_separator y c.loop-at.at) (value c.args.states.now c.args.members.now c.args.text.now c.args.count c.args.used c.args.off c.args.len c.args.owner c.requires)) c.if-start-stop.false (subst (λ (y : List ℕ). c.loop-at.at < length y) (value c.args.states.now c.args.members.now c.args.text.now c.args.count c.args.used c.args.off c.args.len c.args.owner c.requires) c.loop-at-test.true)).1
+enter_name-k-requires-clause-len_in_bounds c = (name_fits_lem c.args.states.now c.args.members.now c.args.text.now c.args.rows.states c.args.rows.members c.args.off c.args.len c.args.owner c.requires c.loop-at.states c.loop-at.members c.loop-at.rows.states c.loop-at.rows.members c.loop-at.at c.loop-at.invariant c.next_state_word-next.result (c.next_state_word-next.ensures ∙ ap (λ (y : List ℕ). next_word is_separator y c.loop-at.at) (value c.args.states.now c.args.members.now c.args.text.now c.args.rows.states c.args.rows.members c.args.off c.args.len c.args.owner c.requires)) c.if-next.false (subst (λ (y : List ℕ). c.loop-at.at < length y) (value c.args.states.now c.args.members.now c.args.text.now c.args.rows.states c.args.rows.members c.args.off c.args.len c.args.owner c.requires) c.loop-at-test.true)).1
 
 pub enter_name-k-requires-clause-count_in_bounds : goal.enter_name-k-requires-clause-count_in_bounds
-enter_name-k-requires-clause-count_in_bounds c = name_room c.args.states.now c.args.members.now c.args.text.now c.args.count c.args.used c.args.off c.args.len c.args.owner c.requires c.loop-at.states c.loop-at.members c.loop-at.n c.loop-at.m c.loop-at.at c.loop-at.invariant c.next_state_word-next.result (c.next_state_word-next.ensures ∙ ap (λ (y : List ℕ). next_word is_separator y c.loop-at.at) (value c.args.states.now c.args.members.now c.args.text.now c.args.count c.args.used c.args.off c.args.len c.args.owner c.requires)) c.if-start-stop.false (subst (λ (y : List ℕ). c.loop-at.at < length y) (value c.args.states.now c.args.members.now c.args.text.now c.args.count c.args.used c.args.off c.args.len c.args.owner c.requires) c.loop-at-test.true)
+enter_name-k-requires-clause-count_in_bounds c = name_room c.args.states.now c.args.members.now c.args.text.now c.args.rows.states c.args.rows.members c.args.off c.args.len c.args.owner c.requires c.loop-at.states c.loop-at.members c.loop-at.rows.states c.loop-at.rows.members c.loop-at.at c.loop-at.invariant c.next_state_word-next.result (c.next_state_word-next.ensures ∙ ap (λ (y : List ℕ). next_word is_separator y c.loop-at.at) (value c.args.states.now c.args.members.now c.args.text.now c.args.rows.states c.args.rows.members c.args.off c.args.len c.args.owner c.requires)) c.if-next.false (subst (λ (y : List ℕ). c.loop-at.at < length y) (value c.args.states.now c.args.members.now c.args.text.now c.args.rows.states c.args.rows.members c.args.off c.args.len c.args.owner c.requires) c.loop-at-test.true)
 
 pub enter_name-k-requires-clause-states_value : goal.enter_name-k-requires-clause-states_value
 enter_name-k-requires-clause-states_value c = c.loop-at.invariant.apart
 
--- src/lib.rt:87:43
-pub overflow_add-k : goal.overflow_add-k
-overflow_add-k c = omega (arith, name_small c.args.states.now c.args.members.now c.args.text.now c.args.count c.args.used c.args.off c.args.len c.args.owner c.requires c.loop-at.states c.loop-at.members c.loop-at.n c.loop-at.m c.loop-at.at c.loop-at.invariant c.next_state_word-next.result (c.next_state_word-next.ensures ∙ ap (λ (y : List ℕ). next_word is_separator y c.loop-at.at) (value c.args.states.now c.args.members.now c.args.text.now c.args.count c.args.used c.args.off c.args.len c.args.owner c.requires)) c.if-start-stop.false (subst (λ (y : List ℕ). c.loop-at.at < length y) (value c.args.states.now c.args.members.now c.args.text.now c.args.count c.args.used c.args.off c.args.len c.args.owner c.requires) c.loop-at-test.true) c.enter_name-k.result c.enter_name-k.ensures.value)
+pub overflow_cast-near : goal.overflow_cast-near
+overflow_cast-near c = omega (arith, name_small c.args.states.now c.args.members.now c.args.text.now c.args.rows.states c.args.rows.members c.args.off c.args.len c.args.owner c.requires c.loop-at.states c.loop-at.members c.loop-at.rows.states c.loop-at.rows.members c.loop-at.at c.loop-at.invariant c.next_state_word-next.result (c.next_state_word-next.ensures ∙ ap (λ (y : List ℕ). next_word is_separator y c.loop-at.at) (value c.args.states.now c.args.members.now c.args.text.now c.args.rows.states c.args.rows.members c.args.off c.args.len c.args.owner c.requires)) c.if-next.false (subst (λ (y : List ℕ). c.loop-at.at < length y) (value c.args.states.now c.args.members.now c.args.text.now c.args.rows.states c.args.rows.members c.args.off c.args.len c.args.owner c.requires) c.loop-at-test.true) c.enter_name-k.result c.enter_name-k.ensures.value)
 
--- src/lib.rt:87:42
-pub overflow_cast-k : goal.overflow_cast-k
-overflow_cast-k c = omega (arith, name_small c.args.states.now c.args.members.now c.args.text.now c.args.count c.args.used c.args.off c.args.len c.args.owner c.requires c.loop-at.states c.loop-at.members c.loop-at.n c.loop-at.m c.loop-at.at c.loop-at.invariant c.next_state_word-next.result (c.next_state_word-next.ensures ∙ ap (λ (y : List ℕ). next_word is_separator y c.loop-at.at) (value c.args.states.now c.args.members.now c.args.text.now c.args.count c.args.used c.args.off c.args.len c.args.owner c.requires)) c.if-start-stop.false (subst (λ (y : List ℕ). c.loop-at.at < length y) (value c.args.states.now c.args.members.now c.args.text.now c.args.count c.args.used c.args.off c.args.len c.args.owner c.requires) c.loop-at-test.true) c.enter_name-k.result c.enter_name-k.ensures.value)
-
--- src/lib.rt:87:9
 pub put_member-requires : goal.put_member-requires
-put_member-requires c = member_room c.args.states.now c.args.members.now c.args.text.now c.args.count c.args.used c.args.off c.args.len c.args.owner c.requires c.loop-at.states c.loop-at.members c.loop-at.n c.loop-at.m c.loop-at.at c.loop-at.invariant c.next_state_word-next.result (c.next_state_word-next.ensures ∙ ap (λ (y : List ℕ). next_word is_separator y c.loop-at.at) (value c.args.states.now c.args.members.now c.args.text.now c.args.count c.args.used c.args.off c.args.len c.args.owner c.requires)) c.if-start-stop.false (subst (λ (y : List ℕ). c.loop-at.at < length y) (value c.args.states.now c.args.members.now c.args.text.now c.args.count c.args.used c.args.off c.args.len c.args.owner c.requires) c.loop-at-test.true)
+put_member-requires c = member_room c.args.states.now c.args.members.now c.args.text.now c.args.rows.states c.args.rows.members c.args.off c.args.len c.args.owner c.requires c.loop-at.states c.loop-at.members c.loop-at.rows.states c.loop-at.rows.members c.loop-at.at c.loop-at.invariant c.next_state_word-next.result (c.next_state_word-next.ensures ∙ ap (λ (y : List ℕ). next_word is_separator y c.loop-at.at) (value c.args.states.now c.args.members.now c.args.text.now c.args.rows.states c.args.rows.members c.args.off c.args.len c.args.owner c.requires)) c.if-next.false (subst (λ (y : List ℕ). c.loop-at.at < length y) (value c.args.states.now c.args.members.now c.args.text.now c.args.rows.states c.args.rows.members c.args.off c.args.len c.args.owner c.requires) c.loop-at-test.true)
 
--- src/lib.rt:88:9
-pub count_after-n-requires : goal.count_after-n-requires
-count_after-n-requires c = omega (arith, name_small c.args.states.now c.args.members.now c.args.text.now c.args.count c.args.used c.args.off c.args.len c.args.owner c.requires c.loop-at.states c.loop-at.members c.loop-at.n c.loop-at.m c.loop-at.at c.loop-at.invariant c.next_state_word-next.result (c.next_state_word-next.ensures ∙ ap (λ (y : List ℕ). next_word is_separator y c.loop-at.at) (value c.args.states.now c.args.members.now c.args.text.now c.args.count c.args.used c.args.off c.args.len c.args.owner c.requires)) c.if-start-stop.false (subst (λ (y : List ℕ). c.loop-at.at < length y) (value c.args.states.now c.args.members.now c.args.text.now c.args.count c.args.used c.args.off c.args.len c.args.owner c.requires) c.loop-at-test.true) c.enter_name-k.result c.enter_name-k.ensures.value)
-
--- src/lib.rt:89:9
-pub overflow_add-m : goal.overflow_add-m
-overflow_add-m c = omega (arith, member_room c.args.states.now c.args.members.now c.args.text.now c.args.count c.args.used c.args.off c.args.len c.args.owner c.requires c.loop-at.states c.loop-at.members c.loop-at.n c.loop-at.m c.loop-at.at c.loop-at.invariant c.next_state_word-next.result (c.next_state_word-next.ensures ∙ ap (λ (y : List ℕ). next_word is_separator y c.loop-at.at) (value c.args.states.now c.args.members.now c.args.text.now c.args.count c.args.used c.args.off c.args.len c.args.owner c.requires)) c.if-start-stop.false (subst (λ (y : List ℕ). c.loop-at.at < length y) (value c.args.states.now c.args.members.now c.args.text.now c.args.count c.args.used c.args.off c.args.len c.args.owner c.requires) c.loop-at-test.true))
+pub count_after-requires : goal.count_after-requires
+count_after-requires c = omega (arith, name_small c.args.states.now c.args.members.now c.args.text.now c.args.rows.states c.args.rows.members c.args.off c.args.len c.args.owner c.requires c.loop-at.states c.loop-at.members c.loop-at.rows.states c.loop-at.rows.members c.loop-at.at c.loop-at.invariant c.next_state_word-next.result (c.next_state_word-next.ensures ∙ ap (λ (y : List ℕ). next_word is_separator y c.loop-at.at) (value c.args.states.now c.args.members.now c.args.text.now c.args.rows.states c.args.rows.members c.args.off c.args.len c.args.owner c.requires)) c.if-next.false (subst (λ (y : List ℕ). c.loop-at.at < length y) (value c.args.states.now c.args.members.now c.args.text.now c.args.rows.states c.args.rows.members c.args.off c.args.len c.args.owner c.requires) c.loop-at-test.true) c.enter_name-k.result c.enter_name-k.ensures.value)
 
 pub overflow_add-near : goal.overflow_add-near
-overflow_add-near c = omega (arith, name_small c.args.states.now c.args.members.now c.args.text.now c.args.count c.args.used c.args.off c.args.len c.args.owner c.requires c.loop-at.states c.loop-at.members c.loop-at.n c.loop-at.m c.loop-at.at c.loop-at.invariant c.next_state_word-next.result (c.next_state_word-next.ensures ∙ ap (λ (y : List ℕ). next_word is_separator y c.loop-at.at) (value c.args.states.now c.args.members.now c.args.text.now c.args.count c.args.used c.args.off c.args.len c.args.owner c.requires)) c.if-start-stop.false (subst (λ (y : List ℕ). c.loop-at.at < length y) (value c.args.states.now c.args.members.now c.args.text.now c.args.count c.args.used c.args.off c.args.len c.args.owner c.requires) c.loop-at-test.true) c.enter_name-k.result c.enter_name-k.ensures.value)
+overflow_add-near c = omega (arith, name_small c.args.states.now c.args.members.now c.args.text.now c.args.rows.states c.args.rows.members c.args.off c.args.len c.args.owner c.requires c.loop-at.states c.loop-at.members c.loop-at.rows.states c.loop-at.rows.members c.loop-at.at c.loop-at.invariant c.next_state_word-next.result (c.next_state_word-next.ensures ∙ ap (λ (y : List ℕ). next_word is_separator y c.loop-at.at) (value c.args.states.now c.args.members.now c.args.text.now c.args.rows.states c.args.rows.members c.args.off c.args.len c.args.owner c.requires)) c.if-next.false (subst (λ (y : List ℕ). c.loop-at.at < length y) (value c.args.states.now c.args.members.now c.args.text.now c.args.rows.states c.args.rows.members c.args.off c.args.len c.args.owner c.requires) c.loop-at-test.true) c.enter_name-k.result c.enter_name-k.ensures.value)
 
--- src/lib.rt:79:5
 pub loop-at-smaller : goal.loop-at-smaller
-loop-at-smaller c = omega (arith, name_fits_lem c.args.states.now c.args.members.now c.args.text.now c.args.count c.args.used c.args.off c.args.len c.args.owner c.requires c.loop-at.states c.loop-at.members c.loop-at.n c.loop-at.m c.loop-at.at c.loop-at.invariant c.next_state_word-next.result (c.next_state_word-next.ensures ∙ ap (λ (y : List ℕ). next_word is_separator y c.loop-at.at) (value c.args.states.now c.args.members.now c.args.text.now c.args.count c.args.used c.args.off c.args.len c.args.owner c.requires)) c.if-start-stop.false (subst (λ (y : List ℕ). c.loop-at.at < length y) (value c.args.states.now c.args.members.now c.args.text.now c.args.count c.args.used c.args.off c.args.len c.args.owner c.requires) c.loop-at-test.true), value_length c.args.text.now c.args.off c.args.len c.requires.inside)
+loop-at-smaller c = omega (arith, name_fits_lem c.args.states.now c.args.members.now c.args.text.now c.args.rows.states c.args.rows.members c.args.off c.args.len c.args.owner c.requires c.loop-at.states c.loop-at.members c.loop-at.rows.states c.loop-at.rows.members c.loop-at.at c.loop-at.invariant c.next_state_word-next.result (c.next_state_word-next.ensures ∙ ap (λ (y : List ℕ). next_word is_separator y c.loop-at.at) (value c.args.states.now c.args.members.now c.args.text.now c.args.rows.states c.args.rows.members c.args.off c.args.len c.args.owner c.requires)) c.if-next.false (subst (λ (y : List ℕ). c.loop-at.at < length y) (value c.args.states.now c.args.members.now c.args.text.now c.args.rows.states c.args.rows.members c.args.off c.args.len c.args.owner c.requires) c.loop-at-test.true), value_length c.args.text.now c.args.off c.args.len c.requires.inside)
 
--- src/lib.rt:79:5
 pub loop-at-preserved : goal.loop-at-preserved
-loop-at-preserved c = entering_more c.args.states.now c.args.members.now c.args.text.now c.args.count c.args.used c.args.off c.args.len c.args.owner c.requires c.loop-at.states c.loop-at.members c.loop-at.n c.loop-at.m c.loop-at.at c.loop-at.invariant c.next_state_word-next.result (c.next_state_word-next.ensures ∙ ap (λ (y : List ℕ). next_word is_separator y c.loop-at.at) (value c.args.states.now c.args.members.now c.args.text.now c.args.count c.args.used c.args.off c.args.len c.args.owner c.requires)) c.if-start-stop.false (subst (λ (y : List ℕ). c.loop-at.at < length y) (value c.args.states.now c.args.members.now c.args.text.now c.args.count c.args.used c.args.off c.args.len c.args.owner c.requires) c.loop-at-test.true) c.enter_name-k.result _ _ _ c.enter_name-k.ensures.value c.enter_name-k.ensures.states_after c.put_member.ensures c.count_after-n.ensures
+loop-at-preserved c = entering_more c.args.states.now c.args.members.now c.args.text.now c.args.rows.states c.args.rows.members c.args.off c.args.len c.args.owner c.requires c.loop-at.states c.loop-at.members c.loop-at.rows.states c.loop-at.rows.members c.loop-at.at c.loop-at.invariant c.next_state_word-next.result (c.next_state_word-next.ensures ∙ ap (λ (y : List ℕ). next_word is_separator y c.loop-at.at) (value c.args.states.now c.args.members.now c.args.text.now c.args.rows.states c.args.rows.members c.args.off c.args.len c.args.owner c.requires)) c.if-next.false (subst (λ (y : List ℕ). c.loop-at.at < length y) (value c.args.states.now c.args.members.now c.args.text.now c.args.rows.states c.args.rows.members c.args.off c.args.len c.args.owner c.requires) c.loop-at-test.true) c.enter_name-k.result _ _ _ c.enter_name-k.ensures.value c.enter_name-k.ensures.states_after c.put_member.ensures c.count_after.ensures
 
--- src/lib.rt:70:1
 pub shape_of-states : goal.shape_of-states
 shape_of-states c = c.loop-at.invariant.states.size
 
--- src/lib.rt:70:1
 pub shape_of-members : goal.shape_of-members
 shape_of-members c = c.loop-at.invariant.partly.size
 
--- src/lib.rt:70:1
 pub returns : goal.returns
-returns c = entering_end c.args.states.now c.args.members.now c.args.text.now c.args.count c.args.used c.args.off c.args.len c.args.owner c.requires c.loop-at.states c.loop-at.members c.loop-at.n c.loop-at.m c.loop-at.at c.loop-at.invariant (words_end _ c.loop-at.at (subst (λ (y : List ℕ). length y ≤ c.loop-at.at) (value c.args.states.now c.args.members.now c.args.text.now c.args.count c.args.used c.args.off c.args.len c.args.owner c.requires) c.loop-at-test.false))
+returns c = entering_end c.args.states.now c.args.members.now c.args.text.now c.args.rows.states c.args.rows.members c.args.off c.args.len c.args.owner c.requires c.loop-at.states c.loop-at.members c.loop-at.rows.states c.loop-at.rows.members c.loop-at.at c.loop-at.invariant (words_end _ c.loop-at.at (subst (λ (y : List ℕ). length y ≤ c.loop-at.at) (value c.args.states.now c.args.members.now c.args.text.now c.args.rows.states c.args.rows.members c.args.off c.args.len c.args.owner c.requires) c.loop-at-test.false))

@@ -17,10 +17,10 @@ pub returns-then-names_state : goal.returns-then-names_state
 returns-then-names_state c = written_as c.args.states.now c.args.members.now c.args.text.now c.args.count c.args.used c.args.owner _ _ _ _ (state_skips c.args.kind c.args.tag c.args.text.now c.args.t.now c.if-kind-eq-END.false (sym c.names_state.ensures ∙ c.if-names_state.true)) (state_brings c.args.kind c.args.tag c.args.text.now c.args.t.now c.if-kind-eq-END.false (sym c.names_state.ensures ∙ c.if-names_state.true)) _ _ _ _ c.write_state.ensures
 
 pub write_targets-requires : goal.write_targets-requires
-write_targets-requires c = let r = as_room c.args.states.now c.args.members.now c.args.text.now c.args.count c.args.used _ (cell_at c.args.t.now 34) c.key_cell-c.ensures (room_as c.args.states.now c.args.members.now c.args.text.now c.args.count c.args.used _ _ _ _ (other_skips c.args.kind c.args.tag c.args.text.now c.args.t.now c.if-kind-eq-END.false (sym c.names_state.ensures ∙ c.if-names_state.false)) (transition_brings c.args.kind c.args.tag c.args.text.now c.args.t.now c.if-kind-eq-END.false (sym c.names_state.ensures ∙ c.if-names_state.false) c.if-tag-eq-TRANSITION.true) c.requires.name_room) c.requires.own_in.1.1 in record { name_room = r.0; in_text = r.1 }
+write_targets-requires c = let r = as_room c.args.states.now c.args.members.now c.args.text.now c.args.count c.args.used _ (cell_at c.args.t.now 34) c.key_cell.ensures (room_as c.args.states.now c.args.members.now c.args.text.now c.args.count c.args.used _ _ _ _ (other_skips c.args.kind c.args.tag c.args.text.now c.args.t.now c.if-kind-eq-END.false (sym c.names_state.ensures ∙ c.if-names_state.false)) (transition_brings c.args.kind c.args.tag c.args.text.now c.args.t.now c.if-kind-eq-END.false (sym c.names_state.ensures ∙ c.if-names_state.false) c.if-tag-eq-TRANSITION.true) c.requires.name_room) c.requires.own_in.1.1 in record { name_room = r.0; in_text = r.1 }
 
 pub returns-then-tag-eq-TRANSITION : goal.returns-then-tag-eq-TRANSITION
-returns-then-tag-eq-TRANSITION c = written_as c.args.states.now c.args.members.now c.args.text.now c.args.count c.args.used c.args.owner _ _ _ _ (other_skips c.args.kind c.args.tag c.args.text.now c.args.t.now c.if-kind-eq-END.false (sym c.names_state.ensures ∙ c.if-names_state.false)) (transition_brings c.args.kind c.args.tag c.args.text.now c.args.t.now c.if-kind-eq-END.false (sym c.names_state.ensures ∙ c.if-names_state.false) c.if-tag-eq-TRANSITION.true) _ _ _ _ (as_written c.args.states.now c.args.members.now c.args.text.now c.args.count c.args.used c.args.owner _ (cell_at c.args.t.now 34) c.key_cell-c.ensures _ _ _ _ c.write_targets.ensures)
+returns-then-tag-eq-TRANSITION c = written_as c.args.states.now c.args.members.now c.args.text.now c.args.count c.args.used c.args.owner _ _ _ _ (other_skips c.args.kind c.args.tag c.args.text.now c.args.t.now c.if-kind-eq-END.false (sym c.names_state.ensures ∙ c.if-names_state.false)) (transition_brings c.args.kind c.args.tag c.args.text.now c.args.t.now c.if-kind-eq-END.false (sym c.names_state.ensures ∙ c.if-names_state.false) c.if-tag-eq-TRANSITION.true) _ _ _ _ (as_written c.args.states.now c.args.members.now c.args.text.now c.args.count c.args.used c.args.owner _ (cell_at c.args.t.now 34) c.key_cell.ensures _ _ _ _ c.write_targets.ensures)
 
 pub returns : goal.returns
 returns c = none_written c.args.states.now c.args.members.now c.args.text.now c.args.count c.args.used c.args.owner _ _ (others_bring c.args.kind c.args.tag c.args.text.now c.args.t.now c.if-kind-eq-END.false (sym c.names_state.ensures ∙ c.if-names_state.false) c.if-tag-eq-TRANSITION.false) c.requires.name_room

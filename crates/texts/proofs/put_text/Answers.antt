@@ -1,20 +1,13 @@
-use Rattle.texts.proofs.Laws.{put_none, put_there, put_new}
-use Rattle.fill.specs.Fill.{cell}
-use Rattle.definition.specs.Rows.{with_cell}
-use lib.ListN.{get_or}
-use Prim.Native.Nat.{ℕ, ◌+◌}
-use mathlib.Core.Path.{sym, ap, ◌∙◌}
-use native.Mathlib.Omega.{arith}
+use Rattle.std.proofs.Common.{◌∙◌, sym, arith, ◌+◌}
+use Rattle.fill.specs.Fill.{as_cell}
+use Rattle.texts.proofs.Laws.{put_there, put_new, cell_told}
 use Rattle.texts.proofs.put_text.Goals as goal
 
--- src/lib.rt:34:9
-pub returns-then-c-ge32 : goal.returns-then-c-ge32
-returns-then-c-ge32 c = put_none c.args.c (cell c.args.at c.args.len) c.args.t.now c.if-c-ge32.true
+pub returns-then-cell_in-eq0 : goal.returns-then-cell_in-eq0
+returns-then-cell_in-eq0 c =
+    c.put_cell.ensures
+    ∙ put_new c.args.key (as_cell c.args.text) c.args.t.now (omega arith) (sym (cell_told c.args.t.now (c.args.key + c.args.key) _ c.cell_in.ensures) ∙ c.if-cell_in-eq0.true)
 
--- src/lib.rt:39:9
-pub returns-then-a-ne0 : goal.returns-then-a-ne0
-returns-then-a-ne0 c = put_there c.args.c (cell c.args.at c.args.len) c.args.t.now (omega arith) (λ z. c.if-a-ne0.true (c.get-a.ensures ∙ ap (λ (i : ℕ). get_or c.args.t.now i 0) (ap (λ (k : ℕ). k + k) c.index-k.ensures.value) ∙ z))
-
--- src/lib.rt:30:1
-pub returns : goal.returns
-returns c = c.set_text.ensures ∙ ap (λ (i : ℕ). with_cell i (cell c.args.at c.args.len) c.args.t.now) (ap (λ (k : ℕ). k + k) c.index-k.ensures.value) ∙ put_new c.args.c (cell c.args.at c.args.len) c.args.t.now (omega arith) (sym (c.get-a.ensures ∙ ap (λ (i : ℕ). get_or c.args.t.now i 0) (ap (λ (k : ℕ). k + k) c.index-k.ensures.value)) ∙ c.if-a-ne0.false)
+pub returns-else-cell_in-eq0 : goal.returns-else-cell_in-eq0
+returns-else-cell_in-eq0 c =
+    put_there c.args.key (as_cell c.args.text) c.args.t.now (omega arith) (λ z. c.if-cell_in-eq0.false (cell_told c.args.t.now (c.args.key + c.args.key) _ c.cell_in.ensures ∙ z))

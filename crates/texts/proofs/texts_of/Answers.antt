@@ -1,8 +1,8 @@
-use mathlib.Core.Path.{◌∙◌, ap}
-use lib.ListN.{take}
-use Rattle.plain.specs.Plain.{loads_in}
-use Rattle.fill.specs.Fill.{as_cell}
+use Rattle.std.proofs.Common.{◌≡◌, ◌+◌, ◌-◌, ◌∙◌, ap, take, arith}
+use Rattle.plain.specs.Plain.{loads_in, text_if}
+use Rattle.fill.specs.Fill.{cell, as_cell}
 use Rattle.texts.specs.Texts.{texts_in}
+use Rattle.texts.specs.EventTexts.{trimmed_of}
 use Rattle.texts.proofs.EventLaws.{ended_values, ended_text, ended_small, texts_all}
 use Rattle.texts.proofs.texts_of.Goals as goal
 
@@ -23,4 +23,9 @@ trimmed_cell-c-requires c = ended_small c.args.src.now c.args.p c.args.base c.ar
 
 pub returns : goal.returns
 unfolding as_cell
-returns c = texts_all c.args.src.now c.args.p c.args.base c.args.e c.requires.1 _ c.bytes_of-text.ensures.result_value c.args.made _ _ _ _ _ _ _ (c.value_texts.ensures ∙ ap (texts_in c.args.base (loads_in c.args.src.now (take c.args.p.count c.args.p.slots))) c.requires.0) c.put_own.ensures c.put_made.ensures c.trimmed_cell-a.ensures c.quoted_cell-q.ensures c.trimmed_cell-c.ensures c.close_texts.ensures
+returns c =
+    let z : c.args.base - c.args.base ≡ 0 = omega arith in
+    let empty = c.text_between-nothing.ensures ∙ ap (cell (c.args.base + 1)) z in
+    texts_all c.args.src.now c.args.p c.args.base c.args.e c.requires.1 _ c.bytes_of-text.ensures.result_value c.args.made _ _ _ _ _ _ _
+    (c.value_texts.ensures ∙ ap (texts_in c.args.base (loads_in c.args.src.now (take c.args.p.count c.args.p.slots))) c.requires.0) c.put_own.ensures c.put_made.ensures c.trimmed_cell-a.ensures
+    c.quoted_cell-q.ensures (c.trimmed_cell-c.ensures ∙ ap (trimmed_of c.args.p.tag c.args.e.values (text_if c.args.p.kind c.bytes_of-text.result.now)) empty) c.close_texts.ensures

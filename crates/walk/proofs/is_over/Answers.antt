@@ -1,8 +1,7 @@
-use mathlib.Core.Path.{ap}
-use mathlib.Core.Bool.{Bool, ◌||◌}
-use lib.Dec.{leb}
-use lib.ListN.{length}
+use Rattle.std.proofs.Common.{Bool, ap, length, ◌||◌, leb}
+use Rattle.definition.specs.Text.{str}
 use Rattle.walk.proofs.is_over.Goals as goal
 
 pub returns : goal.returns
-returns c = ap (λ (x : Bool). x || leb (length c.args.stream.now) c.args.at) c.begins_event.ensures
+unfolding str
+returns c = ap (λ (x : Bool). x || leb (length c.args.stream.now) c.args.at) c.begins.ensures

@@ -1,41 +1,28 @@
-use mathlib.Core.Bool.{not}
+use Rattle.std.proofs.Common.{Some, None, ◌∙◌, refl, sym}
+use Rattle.definition.specs.Codes.{key_code}
 use Rattle.definition.specs.Text.{str}
+use Rattle.definition.proofs.Base.{true_is_false}
 use Rattle.lines.specs.Blocks.{all, is_within_line}
-use Rattle.walk.proofs.LineIn.{behind_within}
-use Rattle.walk.proofs.TakesLaws.{ended_bounds, part_small, head_open, key_takes}
-use borrow.Author.Tests.{not-true, not-false}
-use native.Mathlib.Omega.{arith}
-use mathlib.Core.Path.{ap, refl, sym, ◌∙◌}
+use Rattle.walk.specs.Views.{found_of}
+use Rattle.walk.proofs.TakesLaws.{head_open, key_takes}
+use Rattle.walk.proofs.Known.{key_named}
 use Rattle.walk.proofs.Plain.{key_known}
-use borrow.Author.Rules.{rules}
 use Rattle.walk.proofs.key_line.Goals as goal
-
-pub overflow_add-from : goal.overflow_add-from
-unfolding str all is_within_line
-overflow_add-from c = search (rules, behind_within (str "key=") refl c.args.stream.now c.args.at c.requires.stream_value c.requires.at_in_bounds)
 
 pub returns-then-not-is_ended : goal.returns-then-not-is_ended
 unfolding str all is_within_line
-returns-then-not-is_ended c = head_open c.args.stream.now c.no_line.result c.no_line.ensures c.args.at _ _ (str "key=") refl c.requires.stream_value c.line_end-end.result c.line_end-end.ensures (sym c.is_ended.ensures ∙ not-true _ (ap not c.if-not-is_ended.true))
+returns-then-not-is_ended c = head_open c.args.stream.now _ refl c.args.at _ _ (str "key=") refl c.requires.stream_value c.line_end-end.result c.line_end-end.ensures (sym c.is_ended.ensures ∙ c.if-not-is_ended.true)
 
-pub slice_bounds-key-count : goal.slice_bounds-key-count
-slice_bounds-key-count c = omega (arith, c.line_end-end.ensures)
+pub name_part-requires-clause-as_written : goal.name_part-requires-clause-as_written
+name_part-requires-clause-as_written c = λ h. key_known _ (key_code c.key_of-what.result) c.key_of-what.ensures (key_named c.key_of-what.result (sym c.is_some.ensures ∙ h))
 
-pub slice_bounds-key-end : goal.slice_bounds-key-end
-slice_bounds-key-end c = omega (arith, (ended_bounds c.args.stream.now c.line_end-end.result (sym c.is_ended.ensures ∙ not-false _ (ap not c.if-not-is_ended.false))).0)
-
-pub part_by_code-requires-clause-written_bound : goal.part_by_code-requires-clause-written_bound
-part_by_code-requires-clause-written_bound c = part_small _ _ _ (omega (arith, c.line_end-end.ensures)) (sym c.is_ended.ensures ∙ not-false _ (ap not c.if-not-is_ended.false))
-
-pub part_by_code-requires-clause-high_bound : goal.part_by_code-requires-clause-high_bound
-part_by_code-requires-clause-high_bound c = omega arith
-
-pub part_by_code-requires-clause-as_written : goal.part_by_code-requires-clause-as_written
-part_by_code-requires-clause-as_written c = key_known _ c.key_of-code.result c.key_of-code.ensures
-
-pub overflow_add-end : goal.overflow_add-end
-overflow_add-end c = search (rules, (ended_bounds c.args.stream.now c.line_end-end.result (sym c.is_ended.ensures ∙ not-false _ (ap not c.if-not-is_ended.false))).1)
+pub returns-in_err-name_part : goal.returns-in_err-name_part
+unfolding str
+returns-in_err-name_part c =
+    rw c.from_residual.ensures (
+    key_takes c.args.stream.now c.args.at _ (found_of None) (key_code c.key_of-what.result) c.line_end-end.result _ (sym c.is_ended.ensures ∙ c.if-not-is_ended.false) refl (λ q. true_is_false (sym q)) c.requires.stream_value c.line_end-end.ensures refl c.key_of-what.ensures c.in_err-name_part.ensures
+    )
 
 pub returns : goal.returns
 unfolding str
-returns c = key_takes c.args.stream.now c.args.at _ c.part_by_code.result c.key_of-code.result c.line_end-end.result c.line_with.result (sym c.is_ended.ensures ∙ not-false _ (ap not c.if-not-is_ended.false)) c.line_with.ensures c.requires.stream_value c.line_end-end.ensures refl c.key_of-code.ensures c.part_by_code.ensures
+returns c = key_takes c.args.stream.now c.args.at _ (found_of (Some c.in_ok-name_part.field-0)) (key_code c.key_of-what.result) c.line_end-end.result _ (sym c.is_ended.ensures ∙ c.if-not-is_ended.false) refl (λ q. refl) c.requires.stream_value c.line_end-end.ensures refl c.key_of-what.ensures c.in_ok-name_part.ensures

@@ -1,12 +1,11 @@
-use Prim.Native.Nat.{◌-◌, ◌<◌}
-use mathlib.Core.Path.{◌≡◌}
-use lib.ListN.{length}
+use Rattle.std.proofs.Common.{◌≡◌, ◌<◌, ◌-◌, length}
+use Rattle.definition.specs.Codes.{kind_code, tag_number}
 use Rattle.parts.specs.Parts.{pairs_of}
 use Rattle.walk.specs.Stream.{Reached, made}
 use Rattle.walk.proofs.walk_pairs.Given as goal
 
-abbrev pub invariant-loop-k : goal.invariant-loop-k
-invariant-loop-k l = (length l.pairs ≡ 16) × ((0 < l.at) × Reached l.stream l.at (made l.kind l.tag l.name l.count (pairs_of l.pairs)))
+abbrev pub invariant-loop-kind : goal.invariant-loop-kind
+invariant-loop-kind l = (length l.pairs ≡ 16) × ((0 < l.at) × Reached l.stream l.at (made (kind_code l.kind) (tag_number l.n.what) l.n.part l.count (pairs_of l.pairs)))
 
-abbrev pub decreases-loop-k : goal.decreases-loop-k
-decreases-loop-k l = length l.stream - l.at
+abbrev pub decreases-loop-kind : goal.decreases-loop-kind
+decreases-loop-kind l = length l.stream - l.at

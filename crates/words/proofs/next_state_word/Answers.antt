@@ -1,6 +1,5 @@
-use Rattle.words.specs.Next.{parted_by}
+use Rattle.definition.specs.Text.{is_separator}
 use Rattle.words.proofs.next_state_word.Goals as goal
 
 pub returns : goal.returns
-unfolding parted_by
-returns c = c.next_word.ensures
+returns c = c.next_word.ensures is_separator (λ b r e. e)

@@ -1,16 +1,13 @@
-use Rattle.words.specs.Next.{parted_by}
+use Rattle.std.proofs.Common.{arith}
+use Rattle.definition.specs.Text.{is_space}
 use Rattle.words.proofs.Ends.{trim_inside, trim_made}
-use native.Mathlib.Omega.{arith}
 use Rattle.words.proofs.trim.Goals as goal
 
 pub slice_bounds-body_length-count : goal.slice_bounds-body_length-count
-unfolding parted_by
-slice_bounds-body_length-count c = omega (arith, trim_inside _ _ c.skip_gap-off.ensures)
+slice_bounds-body_length-count c = trim_inside _ _ (c.skip-off.ensures is_space (λ b r e. e))
 
 pub slice_bounds-body_length-start : goal.slice_bounds-body_length-start
-unfolding parted_by
-slice_bounds-body_length-start c = omega (arith, trim_inside _ _ c.skip_gap-off.ensures)
+slice_bounds-body_length-start c = omega (arith, trim_inside c.args.v.now c.skip-off.result (c.skip-off.ensures is_space (λ b r e. e)))
 
 pub returns : goal.returns
-unfolding parted_by
-returns c = trim_made _ _ _ c.skip_gap-off.ensures c.body_length-len.ensures
+returns c = trim_made _ _ _ (c.skip-off.ensures is_space (λ b r e. e)) c.body_length.ensures

@@ -1,14 +1,11 @@
-use Rattle.written.proofs.Laws.{escape_length, escape_end}
-use mathlib.Core.Path.{ap}
+use mathlib.Core.Path.{◌≡◌}
+use Prim.Native.Nat.{ℕ}
+use lib.Dec.{eqb}
 use native.Mathlib.Omega.{arith}
-use lib.ListN.{length}
+use Rattle.std.proofs.Common.{rules}
+use Rattle.std.specs.Prelude.{count_by}
+use Rattle.written.proofs.Laws.{marks_by}
 use Rattle.written.proofs.marks.Goals as goal
 
-pub loop-i-preserved : goal.loop-i-preserved
-loop-i-preserved c = omega (arith, escape_length c.args.w.now c.loop-i.i c.loop-i-test.true)
-
-pub returns : goal.returns
-returns c = record {
-  w_value = omega (arith, ap length (escape_end c.args.w.now c.loop-i.i c.loop-i-test.false));
-  upper_bound = omega (arith, ap length (escape_end c.args.w.now c.loop-i.i c.loop-i-test.false));
-}
+pub returns-clause-w_value : goal.returns-clause-w_value
+returns-clause-w_value c = let e : c.count.result ≡ count_by (λ (b : ℕ). eqb b 34) c.args.w.now = search rules in omega (arith, marks_by c.args.w.now)

@@ -1,4 +1,0 @@
-use Rattle.columns.proofs.region_above.Goals as goal
-
-pub returns : goal.returns
-returns c = rw c.is_region.ensures

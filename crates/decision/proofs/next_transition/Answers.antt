@@ -1,5 +1,0 @@
-use Rattle.decision.proofs.Laws.{up}
-use Rattle.decision.proofs.next_transition.Goals as goal
-
-pub returns : goal.returns
-returns c = up c.args.v.ids

@@ -1,4 +1,0 @@
-use Rattle.states.proofs.default_row.Goals as goal
-
-pub returns : goal.returns
-returns c = rw c.no_transition-row.ensures
