@@ -4,100 +4,67 @@
 
 ghost use Rattle.std.specs.Prelude.{◌≡◌, ◌≤◌, ◌<◌, ◌+◌};
 ghost use Rattle.definition.specs.Look.{one_if};
-ghost use Rattle.plan.specs.After.{move_of};
-ghost use Rattle.plan.specs.Decided.{one_unless};
+ghost use Rattle.definition.specs.Codes.{kind_number};
+ghost use Rattle.plan.specs.Decided.{one_there};
 ghost use Rattle.whole.specs.After.{opened_by, position_by, InRange};
 
 use arena::Written;
 use definition::Position;
 use definition::codes::Kind;
-use plan::{
-    ChartPlan, CounterPlan, DatumPlan, EntryPlan, InvokePlan, MemberPlan, MembersPlan, OpenPlan,
-    OpenRegionPlan, ParameterPlan, Plan, RegionPlan, StatePlan, TransitionPlan,
-};
+use plan::{Effect, Element};
 
-fn one(k: u32) -> u32
-    ensures { (result ≡ one_unless k) × (result ≤ 1) }
+// One row more where there is one: a count is added up, so it is a number.
+#[tactic(auto, unfolding(plan::specs::Decided::one_there))]
+fn one<T: Copy>(row: Option<T>) -> u32
+    ensures { (result ≡ one_there row) × (result ≤ 1) }
 {
-    if k == 0 {
-        return 0;
-    }
-    1
-}
-
-// What becomes of the open elements: 0 for one more, 1 for as many, 2 for one less.
-pub fn moves(kind: u32) -> u32
-    ensures { result ≡ move_of kind }
-{
-    match kind {
-        0 => 0,
-        1 => 1,
-        2 => 1,
-        _ => 2,
-    }
+    u32::from(row.is_some())
 }
 
 // `empty` and `whole` are a start and an end as one event.
-fn opened_after(kind: u32, p: Position) -> u32
-    requires { kind ≡ 0 → p.opened < 32 }
-    ensures { result ≡ opened_by kind p.opened }
+#[tactic(auto, unfolding(whole::specs::After::opened_by, definition::specs::Position::pushed_at, definition::specs::Position::popped_at, definition::specs::Position::counting, definition::specs::Position::one_more))]
+fn opened_after(kind: Kind, p: Position) -> u32
+    requires { kind ≡ Kind.Open → p.opened < 32 }
+    ensures { result ≡ opened_by (kind_number kind) p.opened }
 {
-    if kind == Kind::OPEN {
-        let q = p.push();
-        return q.opened;
+    match kind {
+        Kind::Open => p.push().opened,
+        Kind::Empty | Kind::Whole => p.opened,
+        Kind::End => p.pop().opened,
     }
-    if kind == Kind::EMPTY {
-        return p.opened;
-    }
-    if kind == Kind::WHOLE {
-        return p.opened;
-    }
-    let q = p.pop();
-    q.opened
 }
 
+#[tactic(auto, unfolding(definition::specs::Look::one_if, definition::specs::Position::name_drawn, definition::specs::Position::counting, definition::specs::Position::one_more))]
 fn names_after(made: bool, p: Position) -> u32
     requires { p.names + one_if made ≤ 65535 }
     ensures { result ≡ p.names + one_if made }
 {
-    if made {
-        let q = p.draw_name();
-        return q.names;
-    }
-    p.names
+    if made { p.draw_name().names } else { p.names }
 }
 
-pub fn position_after(
-    p: Position,
-    q: Plan,
-    kind: u32,
-    made: bool,
-    charge: u32,
-    w: Written,
-) -> Position
-    requires { InRange p q kind made charge w }
-    ensures { result ≡ position_by p q kind made charge w }
+/// By the event's kind, what it does, and what was written of its texts and names.
+#[tactic(auto, unfolding(whole::specs::After::position_by))]
+pub fn position_after(p: Position, element: Element, effect: Effect, w: Written) -> Position
+    requires { InRange p effect.plan (kind_number element.kind) effect.made effect.charge w }
+    ensures { result ≡ position_by p effect.plan (kind_number element.kind) effect.made effect.charge w }
 {
-    let states = w.states;
-    let members = w.members;
-    let used = w.used;
-    let current = q.counters.current;
+    let q = effect.plan;
     Position {
-        opened: opened_after(kind, p),
-        states: states as u32,
-        transitions: p.transitions + one(q.transitions.number.0),
-        regions: p.regions + one(q.regions.one.0) + one(q.regions.two.0),
-        entries: p.entries + one(q.entries.kind),
+        opened: opened_after(element.kind, p),
+        states: w.states as u32,
+        transitions: p.transitions + one(q.transitions.added),
+        regions: p.regions + one(q.regions.one) + one(q.regions.two),
+        entries: p.entries + one(q.entries.added),
         invokes: p.invokes + one(q.invokes.added),
         datums: p.datums + one(q.datums.added),
-        parameters: p.parameters + one(q.parameters.kind),
-        members: members as u32 + one(q.members.one.list) + one(q.members.two.list),
-        open_regions: q.pending.kept + one(q.pending.tag) + one(q.pending.by),
-        current: current,
+        parameters: p.parameters + one(q.parameters),
+        members: w.members as u32 + one(q.members.one) + one(q.members.two),
+        open_regions: q.pending.kept + one(q.pending.one) + one(q.pending.two),
+        current: q.counters.current,
         ids: q.counters.ids,
         docs: q.counters.docs,
-        names: names_after(made, p),
-        used: used as u32,
-        charge: p.charge + charge,
+        names: names_after(effect.made, p),
+        used: w.used as u32,
+        charge: p.charge + effect.charge,
     }
 }

@@ -2,7 +2,8 @@
 use Prim.Native.Nat.{ℕ, zero, suc, ◌+◌, ◌<◌}
 use mathlib.Core.Path.{◌≡◌, refl, sym, ap, ap₂, ◌∙◌, subst}
 use mathlib.Core.Bool.{Bool, true, false}
-use mathlib.Core.Option.{Option, none, some}
+use mathlib.Core.Option as P
+use Rattle.std.specs.Prelude.{Option, Some, None}
 use mathlib.Core.List.{List, [], ◌∷◌, ◌++◌, map, append-nil}
 use native.Mathlib.Omega.{arith}
 use lib.Dec.{eqb}
@@ -22,10 +23,13 @@ use Rattle.definition.proofs.Base as D
 use Rattle.plain.specs.Keyed.{value_in, offset_in}
 use Rattle.names.proofs.BroughtLaw.{state_stands, transition_stands, others_bring, has_own}
 use Rattle.names.proofs.NamesLaw.{no_loads}
+use Rattle.definition.specs.Codes.{list_number}
 use Rattle.plan.specs.declared.MemberPlan.{MemberPlan}
+use Rattle.plan.specs.declared.TargetPlan.{TargetPlan}
 use Rattle.plan.specs.declared.Plan.{Plan}
 use Rattle.plan.specs.Heard.{heard}
-use Rattle.plan.specs.After.{word_rows, words_in, words_after, targets_after, member_row}
+use Rattle.arena.specs.Storing.{owner_of}
+use Rattle.plan.specs.After.{word_rows, words_after, targets_after, member_row}
 use Rattle.fill.specs.Fill.{texts_of, cell_on}
 use Rattle.wordlists.specs.Words.{word_members, list_cells}
 use Rattle.wordlists.proofs.Clean.{event_rows, send_rows, invoke_rows, targets_rows}
@@ -109,23 +113,18 @@ module _ (s : Store) (e : Event) (fit : in_form limits01 e ≡ true) (differ : k
   abbrev l : Look
   l = look s e
 
-  abbrev w : MemberPlan → List Row
+  abbrev w : Option MemberPlan → List Row
   w p = word_rows_of g text t p
 
-  none_listed : (p : MemberPlan) (u : Table) → p.list ≡ 0 → words_after l p u ≡ u ++ w p
-  unfolding words_after words_in word_rows_of
-  none_listed p u z =
-      ap (λ (k : ℕ). words_in l k p.owner p.value u) z ∙ sym (append-nil u)
-      ∙ ap (λ (x : Table). u ++ x) (sym (ap (λ (k : ℕ). elim k as (λ b. List Row) [ zero ↦ [] | suc i ↦ word_members p.list p.owner (word_cells g text t) ]) z))
+  none_listed : (p : Option MemberPlan) (u : Table) → p ≡ None → words_after l p u ≡ u ++ w p
+  unfolding words_after word_rows_of
+  none_listed p u e = ap (λ (z : Option MemberPlan). words_after l z u) e ∙ sym (append-nil u) ∙ ap (λ (z : Option MemberPlan). u ++ w z) (sym e)
 
   -- The rows of words by their cells.
-  rows_listed : (p : MemberPlan) (u : Table) → ((k : ℕ) → word_rows l (suc k) p.owner 0 p.value ≡ word_members (suc k) p.owner (word_cells g text t)) → words_after l p u ≡ u ++ w p
-  unfolding words_after words_in word_rows_of
-  rows_listed p u h = go p.list
-    where
-      go : (k : ℕ) → words_in l k p.owner p.value u ≡ u ++ elim k as (λ b. List Row) [ zero ↦ [] | suc i ↦ word_members k p.owner (word_cells g text t) ]
-      go zero = sym (append-nil u)
-      go (suc k) = ap (λ (x : Table). u ++ x) (h k)
+  rows_listed : (p : Option MemberPlan) (x : MemberPlan) (u : Table) → p ≡ Some x
+      → word_rows l (list_number x.list) x.owner 0 x.value ≡ word_members (list_number x.list) x.owner (word_cells g text t) → words_after l p u ≡ u ++ w p
+  unfolding words_after word_rows_of
+  rows_listed p x u e h = ap (λ (z : Option MemberPlan). words_after l z u) e ∙ ap (λ (r : Table). u ++ r) h ∙ ap (λ (z : Option MemberPlan). u ++ w z) (sym e)
 
   cells_events : g ≡ 16 → word_cells g text t ≡ field_words (field_in (fields_from g o is) 14)
   unfolding word_cells texts_of cell_on cell_at
@@ -136,20 +135,22 @@ module _ (s : Store) (e : Event) (fit : in_form limits01 e ≡ true) (differ : k
   unfolding word_cells texts_of cell_on cell_at
   cells_names q h = rw (ne_eqb g 16 q, word_cells) (cells_there g s.text is 12 false) ∙ sym h
 
-  words_written : (p : MemberPlan) (u : Table) → Words g (heard l) p → words_after l p u ≡ u ++ w p
+  words_written : (p : Option MemberPlan) (u : Table) → Words g (heard l) p → words_after l p u ≡ u ++ w p
   unfolding heard words_of look
   words_written p u (no_words z) = none_listed p u z
-  words_written p u (events q z) =
-      rows_listed p u (λ k.
-      ap (word_rows l (suc k) p.owner 0) z ∙ event_rows l (suc k) p.owner q ∙ ap (word_members (suc k) p.owner) (sym (cells_events q)))
-  words_written p u (names_of_send q z) =
-      rows_listed p u (λ k.
-      ap (word_rows l (suc k) p.owner 0) z ∙ send_rows l (suc k) p.owner q
-      ∙ ap (word_members (suc k) p.owner) (sym (cells_names (λ x. omega (arith, x, q)) (ap (λ (x : ℕ). field_words (field_in (fields_from x o is) 12)) q ∙ send_words o is))))
-  words_written p u (names_of_invoke q z) =
-      rows_listed p u (λ k.
-      ap (word_rows l (suc k) p.owner 0) z ∙ invoke_rows l (suc k) p.owner q
-      ∙ ap (word_members (suc k) p.owner) (sym (cells_names (λ x. omega (arith, x, q)) (ap (λ (x : ℕ). field_words (field_in (fields_from x o is) 12)) q ∙ invoke_words o is))))
+  words_written p u (events x q e z) =
+      let k : ℕ = list_number x.list in
+      rows_listed p x u e (ap (word_rows l k x.owner 0) z ∙ event_rows l k x.owner q ∙ ap (word_members k x.owner) (sym (cells_events q)))
+  words_written p u (names_of_send x q e z) =
+      let k : ℕ = list_number x.list in
+      rows_listed p x u e (
+      ap (word_rows l k x.owner 0) z ∙ send_rows l k x.owner q
+      ∙ ap (word_members k x.owner) (sym (cells_names (λ y. omega (arith, y, q)) (ap (λ (y : ℕ). field_words (field_in (fields_from y o is) 12)) q ∙ send_words o is))))
+  words_written p u (names_of_invoke x q e z) =
+      let k : ℕ = list_number x.list in
+      rows_listed p x u e (
+      ap (word_rows l k x.owner 0) z ∙ invoke_rows l k x.owner q
+      ∙ ap (word_members k x.owner) (sym (cells_names (λ y. omega (arith, y, q)) (ap (λ (y : ℕ). field_words (field_in (fields_from y o is) 12)) q ∙ invoke_words o is))))
 
   -- ---- the targets
 
@@ -164,26 +165,27 @@ module _ (s : Store) (e : Event) (fit : in_form limits01 e ≡ true) (differ : k
   drop_nil (suc k) = refl
 
   -- Without names no target.
-  none_named : (owner skip : ℕ) (u : Table) → pieces_in e.kind g text t ≡ [] → owner ≡ 0 → targets_after l owner skip u ≡ u ++ map (target owner) (drop (skip_of e.kind g) refs)
+  none_named : (q : Option TargetPlan) (u : Table) → pieces_in e.kind g text t ≡ [] → q ≡ None → targets_after l q u ≡ u ++ map (target (owner_of q)) (drop (skip_of e.kind g) refs)
   unfolding targets_after resolve
-  none_named owner skip u z w₀ =
+  none_named q u z w₀ =
       let r : drop (skip_of e.kind g) refs ≡ [] = ap (λ (ps : List Piece). drop (skip_of e.kind g) (resolve text (name_cells (table_of n 1)) ps).refs) z ∙ drop_nil (skip_of e.kind g) in
-      ap (λ (x : ℕ). targets_after l x skip u) w₀ ∙ sym (append-nil u) ∙ ap (λ (x : List ℕ). u ++ map (target owner) x) (sym r)
+      ap (λ (x : Option TargetPlan). targets_after l x u) w₀ ∙ sym (append-nil u) ∙ ap (λ (x : List ℕ). u ++ map (target (owner_of q)) x) (sym r)
 
-  all_named : (owner skip x : ℕ) (u : Table) → owner ≡ suc x → skip ≡ skip_of e.kind g → targets_after l owner skip u ≡ u ++ map (target owner) (drop (skip_of e.kind g) refs)
-  unfolding E.member_row member_row
-  all_named owner skip x u eo es =
-      ap₂ (λ (a b : ℕ). targets_after l a b u) eo es ∙ sym (targets_rows l x (skip_of e.kind g) (target (suc x)) (λ v. refl) u)
-      ∙ ap₂ (λ (a : ℕ) (rs : List ℕ). u ++ map (target a) (drop (skip_of e.kind g) rs)) (sym eo) (sym refs_are)
+  all_named : (q : Option TargetPlan) (x : TargetPlan) (u : Table) → q ≡ Some x → x.skip ≡ skip_of e.kind g → targets_after l q u ≡ u ++ map (target (owner_of q)) (drop (skip_of e.kind g) refs)
+  unfolding E.member_row member_row owner_of
+  all_named q x u eo es =
+      ap (λ (z : Option TargetPlan). targets_after l z u) eo ∙ sym (targets_rows l x (target x.owner) (λ v. refl) u)
+      ∙ ap₂ (λ (k : ℕ) (rs : List ℕ). u ++ map (target x.owner) (drop k rs)) es (sym refs_are)
+      ∙ ap (λ (z : Option TargetPlan). u ++ map (target (owner_of z)) (drop (skip_of e.kind g) refs)) (sym eo)
 
   -- No `initial` attribute: the own name alone.
   absent : has l 2 ≡ false → pieces_at text (cell_at t 4) ≡ []
   unfolding has present look texts_of cell_on cell_at pieces_at
   absent h = go (field_in (fields_from g o is) 2) h
     where
-      go : (f : Option Field) → present f ≡ false → pieces_at text (field_cell f) ≡ []
-      go none z = unfold field_cell no_cell pieces_at in refl
-      go (some f) z = absurd (truth z)
+      go : (f : P.Option Field) → present f ≡ false → pieces_at text (field_cell f) ≡ []
+      go P.none z = unfold field_cell no_cell pieces_at in refl
+      go (P.some f) z = absurd (truth z)
         where
           truth : ◌≡◌ {A = Bool} true false → ⊥
           truth y = subst (λ (b : Bool). elim b as (λ c. Type 0) [ true ↦ Unit {0} | false ↦ ⊥ ]) y tt
@@ -192,34 +194,33 @@ module _ (s : Store) (e : Event) (fit : in_form limits01 e ≡ true) (differ : k
   unfolding resolve
   one_alone = refl
 
-  own_alone : (owner skip : ℕ) (u : Table) → (e.kind ≡ 3 → ⊥) → names_state g ≡ true → has l 2 ≡ false → owner ≡ 0 → targets_after l owner skip u ≡ u ++ map (target owner) (drop (skip_of e.kind g) refs)
+  own_alone : (q : Option TargetPlan) (u : Table) → (e.kind ≡ 3 → ⊥) → names_state g ≡ true → has l 2 ≡ false → q ≡ None → targets_after l q u ≡ u ++ map (target (owner_of q)) (drop (skip_of e.kind g) refs)
   unfolding targets_after
-  own_alone owner skip u k m h w₀ =
+  own_alone q u k m h w₀ =
       let z : pieces_in e.kind g text t ≡ own_piece text (cell_at t 2) ∷ [] = N.state_brings e.kind g text t k m ∙ ap (λ (ps : List Piece). own_piece text (cell_at t 2) ∷ ps) (absent h) in
       let r : drop (skip_of e.kind g) refs ≡ [] =
       ap₂ (λ (i : ℕ) (ps : List Piece). drop i (resolve text (name_cells (table_of n 1)) ps).refs) (N.state_skips e.kind g text t k m) z ∙ one_alone in
-      ap (λ (x : ℕ). targets_after l x skip u) w₀ ∙ sym (append-nil u) ∙ ap (λ (x : List ℕ). u ++ map (target owner) x) (sym r)
+      ap (λ (x : Option TargetPlan). targets_after l x u) w₀ ∙ sym (append-nil u) ∙ ap (λ (x : List ℕ). u ++ map (target (owner_of q)) x) (sym r)
 
   transition_not : g ≡ 16 → names_state g ≡ false
   unfolding names_state among
   transition_not q = ap names_state q
 
-  targets_written : (owner skip : ℕ) (u : Table) → (e.kind ≡ 3 → ⊥) → Targets g (heard l) owner skip → targets_after l owner skip u ≡ u ++ map (target owner) (drop (skip_of e.kind g) refs)
+  targets_written : (q : Option TargetPlan) (u : Table) → (e.kind ≡ 3 → ⊥) → Targets g (heard l) q → targets_after l q u ≡ u ++ map (target (owner_of q)) (drop (skip_of e.kind g) refs)
   unfolding heard
-  targets_written owner skip u k (no_targets m z w₀) = none_named owner skip u (N.others_bring e.kind g text t k m (eqb-false g 16 z)) w₀
-  targets_written owner skip u k (of_transition x q eo es) = all_named owner skip x u eo (es ∙ sym (N.other_skips e.kind g text t k (transition_not q)))
-  targets_written owner skip u k (of_initial x m i eo es) = all_named owner skip x u eo (es ∙ sym (N.state_skips e.kind g text t k m))
-  targets_written owner skip u k (of_none m i w₀) = own_alone owner skip u k m i w₀
+  targets_written q u k (no_targets m z w₀) = none_named q u (N.others_bring e.kind g text t k m (eqb-false g 16 z)) w₀
+  targets_written q u k (of_transition x h eo es) = all_named q x u eo (es ∙ sym (N.other_skips e.kind g text t k (transition_not h)))
+  targets_written q u k (of_initial x m i eo es) = all_named q x u eo (es ∙ sym (N.state_skips e.kind g text t k m))
+  targets_written q u k (of_none m i w₀) = own_alone q u k m i w₀
 
   -- THE MEMBERS WITH THE EVENT'S WORDS AND TARGETS.
   pub members_listed : (p : Plan) (u : Table) → ((e.kind ≡ 3 → ⊥) → Listed g (heard l) p) → (e.kind ≡ 3 → Unlisted p)
-      → targets_after l p.members.owner p.members.skip (words_after l p.members.words u)
-      ≡ (u ++ w p.members.words) ++ map (target p.members.owner) (drop (skip_of e.kind g) refs)
+      → targets_after l p.members.targets (words_after l p.members.words u) ≡ (u ++ w p.members.words) ++ map (target (owner_of p.members.targets)) (drop (skip_of e.kind g) refs)
   members_listed p u begins ends =
       by (eqb e.kind 3)
       (λ q.
       let k : e.kind ≡ 3 = eqb-true e.kind 3 q in
-      ap (targets_after l p.members.owner p.members.skip) (none_listed p.members.words u (ends k).words) ∙ none_named p.members.owner p.members.skip (u ++ w p.members.words) (N.ends_bring e.kind g text t k) (ends k).targets)
+      ap (targets_after l p.members.targets) (none_listed p.members.words u (ends k).words) ∙ none_named p.members.targets (u ++ w p.members.words) (N.ends_bring e.kind g text t k) (ends k).targets)
       (λ q.
       let k : e.kind ≡ 3 → ⊥ = eqb-false e.kind 3 q in
-      ap (targets_after l p.members.owner p.members.skip) (words_written p.members.words u (begins k).words) ∙ targets_written p.members.owner p.members.skip (u ++ w p.members.words) k (begins k).targets)
+      ap (targets_after l p.members.targets) (words_written p.members.words u (begins k).words) ∙ targets_written p.members.targets (u ++ w p.members.words) k (begins k).targets)

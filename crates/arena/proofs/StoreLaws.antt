@@ -20,7 +20,7 @@ use Rattle.payload.specs.Payload.{made_in, all_loads, payload_in, ends_in}
 use Rattle.texts.specs.EventTexts.{event_texts, Ended, Texts}
 use Rattle.wordlists.specs.Words.{word_rows_of}
 use Rattle.targets.specs.Names.{pieces_in, skip_of, NameRoom, NamesWritten, OwnIn, TargetsIn}
-use Rattle.arena.specs.Storing.{arena, Storable, Stored}
+use Rattle.arena.specs.Storing.{owner_of, arena, Storable, Stored}
 
 parts_length : (v : Parsed) (n : ℕ) → length (payload_in v n) ≡ length (payload v.values) + length (payload (text_loads v.tag v.text)) + length (payload (name_loads (made_in v) (suc n)))
 unfolding payload_in all_loads
@@ -93,7 +93,7 @@ module _ {p : Position} {v : Parsed} {st ms : Table} {tx : List ℕ} {made : Boo
             subst (λ (x : List ℕ). OwnIn v.kind v.tag x t × TargetsIn x t) (sym arena_is) (subst (λ (x : List ℕ). OwnIn v.kind v.tag (arena p v tx) x × TargetsIn (arena p v tx) x) (sym texts_are) (S.own, S.targets)),
           )
 
-          pub all_stored : {st' ms' : Table} {i j : ℕ} → NamesWritten st ms₁ a p.states next m.owner (skip_of v.kind v.tag) (pieces_in v.kind v.tag a t) st' ms' i j
+          pub all_stored : {st' ms' : Table} {i j : ℕ} → NamesWritten st ms₁ a p.states next (owner_of m.targets) (skip_of v.kind v.tag) (pieces_in v.kind v.tag a t) st' ms' i j
               → Stored p v st ms tx m st' ms' tx' t (record { states = i; members = j; used = e.all })
           all_stored {st'} {ms'} {i} {j} W =
               record {
@@ -101,5 +101,5 @@ module _ {p : Position} {v : Parsed} {st ms : Table} {tx : List ℕ} {made : Boo
                 used = end_is;
                 by_key_lem = texts_are;
                 names =
-                    written_to st ms₁ _ a (arena p v tx) p.states next _ m.owner (skip_of v.kind v.tag) (pieces_in v.kind v.tag a t) _ st' ms' i j members_are arena_is next_is pieces_are W;
+                    written_to st ms₁ _ a (arena p v tx) p.states next _ (owner_of m.targets) (skip_of v.kind v.tag) (pieces_in v.kind v.tag a t) _ st' ms' i j members_are arena_is next_is pieces_are W;
               }

@@ -1,9 +1,10 @@
 -- Texts, words and names of an event, written before its rows.
-use Rattle.std.specs.Prelude.{ℕ, ◌+◌, ◌≤◌, ◌≡◌, Bool, List, ◌++◌, length, take}
+use Rattle.std.specs.Prelude.{ℕ, ◌+◌, ◌≤◌, ◌≡◌, Bool, Option, Some, None, List, ◌++◌, length, take}
 use Rattle.definition.specs.declared.Position.{Position}
 use Rattle.definition.specs.Text.{Piece}
 use Rattle.definition.specs.Rows.{Row, Table}
 use Rattle.plain.specs.Plain.{Parsed}
+use Rattle.plan.specs.declared.TargetPlan.{TargetPlan}
 use Rattle.plan.specs.declared.MembersPlan.{MembersPlan}
 use Rattle.wordlists.specs.Words.{set_all}
 use Rattle.payload.specs.Laid.{laid}
@@ -12,6 +13,11 @@ use Rattle.arena.specs.declared.Written.{Written}
 use Rattle.texts.specs.EventTexts.{event_texts}
 use Rattle.wordlists.specs.Words.{word_rows_of}
 use Rattle.targets.specs.Names.{pieces_in, skip_of, NameRoom, NamesWritten, OwnIn, TargetsIn}
+
+-- The transition that gets the targets; 0 where none does.
+unfoldable pub owner_of : Option TargetPlan → ℕ
+owner_of None = 0
+owner_of (Some p) = p.owner
 
 module _ (p : Position) (v : Parsed) where
   abbrev pub payload : List ℕ
@@ -50,4 +56,4 @@ module _ (p : Position) (v : Parsed) where
     pub text : tx' ≡ laid tx p.used payload
     pub used : r.used ≡ p.used + length payload
     pub by_key_lem : t' ≡ texts
-    pub names : NamesWritten st (set_all ms p.members (words tx m)) (arena tx) p.states (p.members + length (words tx m)) m.owner skip (pieces tx) st' ms' r.states r.members
+    pub names : NamesWritten st (set_all ms p.members (words tx m)) (arena tx) p.states (p.members + length (words tx m)) (owner_of m.targets) skip (pieces tx) st' ms' r.states r.members

@@ -4,12 +4,13 @@
 
 ghost use Rattle.std.specs.Prelude.{◌≡◌, replicate};
 ghost use Rattle.plain.specs.Plain.{parsed_in};
-ghost use Rattle.arena.specs.Storing.{Storable, Stored};
+ghost use Rattle.arena.specs.Storing.{owner_of, Storable, Stored};
 
 use definition::Position;
+use fill::Texts;
 use payload::append_event;
 use plain::Plain;
-use plan::MembersPlan;
+use plan::{MembersPlan, TargetPlan};
 use rows::leading;
 use targets::write_names;
 use texts::texts_of;
@@ -21,6 +22,17 @@ pub struct Written {
     pub states: usize,
     pub members: usize,
     pub used: usize,
+}
+
+/// The transition that gets the targets; 0 where none does.
+#[tactic(auto, unfolding(crate::specs::Storing::owner_of))]
+fn owner_of(targets: Option<TargetPlan>) -> u32
+    ensures { result ≡ owner_of targets }
+{
+    match targets {
+        Some(targets) => targets.owner,
+        None => 0,
+    }
 }
 
 /// The texts of an accepted event, its words and its names; where its texts lie is put into `t`, a table of zeros.
@@ -41,7 +53,11 @@ pub fn write_texts(
     let e = append_event(text, p.used as usize, src, pl, made, p.names);
     texts_of(t, src, pl, p.used as usize, made, e);
     let arena = leading(text, e.all);
-    let next = write_words(members, p.members as usize, arena, t, pl.tag, m.words);
+    let texts = Texts {
+        tag: pl.tag,
+        cells: t,
+    };
+    let next = write_words(members, p.members as usize, arena, texts, m.words);
     let named = write_names(
         states,
         members,
@@ -49,9 +65,9 @@ pub fn write_texts(
         p.states as usize,
         next,
         t,
-        pl.kind,
-        pl.tag,
-        m.owner,
+        pl.kind.number(),
+        pl.tag.number(),
+        owner_of(m.targets),
     );
     Written {
         states: named.states,

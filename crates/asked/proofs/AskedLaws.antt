@@ -1,35 +1,31 @@
 -- The questions' parts.
-use Prim.Native.Nat.{ℕ, ◌<◌}
+use Prim.Native.Nat.{ℕ}
 use mathlib.Core.Path.{◌≡◌, refl, sym, ap, ap₂, ◌∙◌}
 use mathlib.Core.Bool.{Bool, true, false, not, ◌&&◌, ◌||◌}
 use mathlib.Core.Option.{Option, none, some}
 use mathlib.Core.List.{List, [], ◌∷◌, ◌++◌}
 use native.Mathlib.Omega.{arith}
 use lib.Dec.{eqb, ltb, leb}
-use lib.ListN.{length, take}
-use borrow.Author.Tests.{ltb-true, eq-eqb, ne_eqb}
+use lib.ListN.{length}
+use borrow.Author.Tests.{ltb-true, ltb-false, lt-leb, eq-eqb, ne_eqb, eqb-true, eqb-false, le-leb}
 use Rattle.definition.specs.Text.{Span, trim}
 use Rattle.definition.specs.Elements.{left_out_keys, Required, requirements, required_in, Apart, exclusions}
-use Rattle.definition.specs.Look.{Load, has_load}
+use Rattle.definition.specs.Look.{has_load}
 use Rattle.definition.specs.Reader.{Question, first_no}
 use Rattle.definition.proofs.Base.{and_left, and_right, true_is_false, and_true, and_no, or_no}
 use Rattle.words.proofs.Laws.{by}
 use Rattle.words.specs.declared.Part.{Part}
 use Rattle.words.specs.Next.{as_span}
-use Rattle.lines.specs.Parts.{part}
 use Rattle.plain.specs.declared.Plain.{Plain}
-use Rattle.plain.specs.declared.Keyed.{Keyed}
-use Rattle.plain.specs.Plain.{slot_bytes, parsed_in, loads_in, text_if}
+use Rattle.plain.specs.Plain.{Parsed, slot_bytes, parsed_in, text_if}
 use Rattle.plain.specs.Keyed.{value_in}
-use Rattle.plain.specs.Keyed.{keyed_of, is_marked, keyed_bytes}
-use Rattle.plain.proofs.ValueLaws.{marked_has, keyed_value}
+use Rattle.definition.specs.Codes.{kind_number, refusal_number}
+use Rattle.definition.specs.declared.codes.Refusal.{Refusal}
+use Rattle.definition.specs.declared.codes.Refusal.TheVariants as R
 use Rattle.heard.proofs.CodeLaws.{flip}
 use Rattle.definition.specs.Nesting.{parent_allowed}
 use Rattle.plan.specs.declared.Heard.{Heard}
 use Rattle.asked.specs.Asked.{questions_by, one_by, all_by, pairs_by, left_out_by, complete_by, apart_by, trimmed_in, text_apart_in, Asked, asked_in, start_by}
-
-no_three : (a b c : Bool) → (not (a && false) && not (b && false) && not (c && false)) ≡ true
-no_three a b c = rw (and_no a, and_no b, and_no c)
 
 -- ---- question 6
 
@@ -42,17 +38,15 @@ module _ (f : ℕ → Bool) (g : ℕ) where
   unfolding left_out_by
   out_by e ks h = ap₂ (λ (b : Bool) (x : List ℕ). b || one_by f x) (ne_eqb g 27 e) h
 
-  pub out_src : (g ≡ 27 → ⊥) → (eqb g 9 || eqb g 26) ≡ true → (r : Bool) → r ≡ f 9 → r ≡ left_out_by f g
-  unfolding left_out_keys one_by
-  out_src e h r k = k ∙ sym (out_by e (9 ∷ []) (rw (h, left_out_keys)) ∙ or_no (f 9))
+  pub out_at : (j k : ℕ) → eqb j 27 ≡ false → left_out_keys j ≡ k ∷ [] → g ≡ j → (r : Bool) → r ≡ f k → r ≡ left_out_by f g
+  unfolding left_out_by one_by
+  out_at j k a b e r h = h ∙ sym (ap₂ (λ (x : Bool) (ks : List ℕ). x || one_by f ks) a b ∙ or_no (f k)) ∙ sym (ap (left_out_by f) e)
 
-  pub out_delay : (g ≡ 27 → ⊥) → (eqb g 9 || eqb g 26) ≡ false → g ≡ 19 → (r : Bool) → r ≡ f 25 → r ≡ left_out_by f g
+  pub out_none : (g ≡ 27 → ⊥) → (g ≡ 9 → ⊥) → (g ≡ 26 → ⊥) → (g ≡ 19 → ⊥) → false ≡ left_out_by f g
   unfolding left_out_keys one_by
-  out_delay e h d r k = k ∙ sym (out_by e (25 ∷ []) (rw (h, left_out_keys, eq-eqb g 19 d, left_out_keys)) ∙ or_no (f 25))
-
-  pub out_none : (g ≡ 27 → ⊥) → (eqb g 9 || eqb g 26) ≡ false → (g ≡ 19 → ⊥) → false ≡ left_out_by f g
-  unfolding left_out_keys one_by
-  out_none e h d = sym (out_by e [] (rw (h, left_out_keys, ne_eqb g 19 d, left_out_keys)))
+  out_none e a b d =
+      let h : (eqb g 9 || eqb g 26) ≡ false = ap₂ ◌||◌ (ne_eqb g 9 a) (ne_eqb g 26 b) in
+      sym (out_by e [] (rw (h, left_out_keys, ne_eqb g 19 d, left_out_keys)))
 
   -- ---- question 10
 
@@ -85,51 +79,89 @@ module _ (g : ℕ) where
 
 -- ---- question 11
 
--- Only send, cancel and param have keys that exclude each other.
-pub apart_none : (f : ℕ → Bool) (g : ℕ) → not (eqb 19 g || eqb 21 g || eqb 14 g) ≡ true → true ≡ apart_by f g
-unfolding apart_by pairs_by exclusions
-apart_none f g h = go (eqb 19 g) (eqb 21 g) (eqb 14 g) h
-  where
-    go : (a b c : Bool) → not (a || b || c) ≡ true
-        → true ≡ (not (a && f 14 && f 15) && (not (a && f 17 && f 18) && (not (a && f 7 && f 8) && (not (a && f 1 && f 11) && (not (b && f 23 && f 24) && (not (c && f 19 && f 27) && true))))))
-    go false false false e = refl
-    go false false true e = true_is_false (sym e)
-    go false true c e = true_is_false (sym e)
-    go true b c e = true_is_false (sym e)
+module _ (f : ℕ → Bool) (g : ℕ) where
+  pub apart_send : g ≡ 19 → (a b c d : Bool) → a ≡ not (f 14 && f 15) → b ≡ not (f 17 && f 18) → c ≡ not (f 7 && f 8) → d ≡ not (f 1 && f 11) → (a && b && c && d) ≡ apart_by f g
+  unfolding apart_by pairs_by exclusions
+  apart_send e a b c d ea eb ec ed =
+      go a b c d ∙ ap₂ (λ (x y : Bool). x && y) ea (ap₂ (λ (x y : Bool). x && y) eb (ap₂ (λ (x y : Bool). x && (y && (true && (true && true)))) ec ed)) ∙ sym (ap (λ (x : ℕ). pairs_by f x exclusions) e)
+    where
+      go : (a b c d : Bool) → (a && b && c && d) ≡ (a && (b && (c && (d && (true && (true && true))))))
+      go true true true true = refl
+      go true true true false = refl
+      go true true false d = refl
+      go true false c d = refl
+      go false b c d = refl
+
+  pub apart_cancel : g ≡ 21 → (a : Bool) → a ≡ not (f 23 && f 24) → a ≡ apart_by f g
+  unfolding apart_by pairs_by exclusions
+  apart_cancel e a ea = ea ∙ sym (and_true (not (f 23 && f 24))) ∙ sym (ap (λ (x : ℕ). pairs_by f x exclusions) e)
+
+  pub apart_param : g ≡ 14 → (a : Bool) → a ≡ not (f 19 && f 27) → a ≡ apart_by f g
+  unfolding apart_by pairs_by exclusions
+  apart_param e a ea = ea ∙ sym (and_true (not (f 19 && f 27))) ∙ sym (ap (λ (x : ℕ). pairs_by f x exclusions) e)
+
+  pub apart_other : (g ≡ 19 → ⊥) → (g ≡ 21 → ⊥) → (g ≡ 14 → ⊥) → true ≡ apart_by f g
+  unfolding apart_by pairs_by exclusions
+  apart_other a b c = rw (flip g 19 a, flip g 21 b, flip g 14 c) refl
+
+-- ---- a text
 
 module _ (src : List ℕ) (p : Plain) where
-  pub text_none : (p.kind ≡ 2 → ⊥) → false ≡ leb 1 (trimmed_in (parsed_in src p).text)
+  pub text_none : (kind_number p.kind ≡ 2 → ⊥) → false ≡ leb 1 (trimmed_in (parsed_in src p).text)
   unfolding parsed_in text_if trimmed_in
   text_none h =
-      let z : (parsed_in src p).text ≡ none = rw (ne_eqb p.kind 2 h, text_if) in
+      let z : (parsed_in src p).text ≡ none = rw (ne_eqb (kind_number p.kind) 2 h, text_if) in
       sym (ap (λ (o : Option (List ℕ)). leb 1 (trimmed_in o)) z)
 
-  pub text_apart_none : (p.kind ≡ 2 → ⊥) → true ≡ text_apart_in (parsed_in src p)
-  unfolding text_apart_in parsed_in
-  text_apart_none h =
-      let x : Bool = has_load 19 (parsed_in src p).values in
-      let y : Bool = leb 1 (length (value_in 19 (parsed_in src p).values)) in
-      sym (no_three (eqb p.tag 9 && x) (eqb p.tag 15 && x) (eqb p.tag 23 && y))
-      ∙ ap₂ (λ (t w : Bool). not (eqb p.tag 9 && x && t) && not (eqb p.tag 15 && x && w) && not (eqb p.tag 23 && y && w)) (text_none h) (sym (ne_eqb p.kind 2 h))
-
-  pub text_some : p.kind ≡ 2 → (v : List ℕ) → v ≡ slot_bytes src p.text → (t : Part) → as_span t ≡ trim v → leb 1 t.len ≡ leb 1 (trimmed_in (parsed_in src p).text)
+  pub text_some : kind_number p.kind ≡ 2 → (v : List ℕ) → v ≡ slot_bytes src p.text → (t : Part) → as_span t ≡ trim v → not (eqb t.len 0) ≡ leb 1 (trimmed_in (parsed_in src p).text)
   unfolding parsed_in text_if trimmed_in as_span
   text_some h v ev t et =
-      let y : (parsed_in src p).text ≡ some (slot_bytes src p.text) = rw (eq-eqb p.kind 2 h, text_if) in
-      ap (λ (s : Span). leb 1 s.len) et ∙ ap (λ (x : List ℕ). leb 1 (trim x).len) ev ∙ sym (ap (λ (o : Option (List ℕ)). leb 1 (trimmed_in o)) y)
+      let y : (parsed_in src p).text ≡ some (slot_bytes src p.text) = rw (eq-eqb (kind_number p.kind) 2 h, text_if) in
+      some_left t.len ∙ ap (λ (s : Span). leb 1 s.len) et ∙ ap (λ (x : List ℕ). leb 1 (trim x).len) ev ∙ sym (ap (λ (o : Option (List ℕ)). leb 1 (trimmed_in o)) y)
+    where
+      some_left : (n : ℕ) → not (eqb n 0) ≡ leb 1 n
+      some_left n = by (eqb n 0) (λ q. ap not q ∙ sym (ap (leb 1) (eqb-true n 0 q))) (λ q. ap not q ∙ sym (le-leb 1 n (omega (arith, eqb-false n 0 q))))
 
-pub data_some : (g : ℕ) (x t r : Bool) → g ≡ 9 → x ≡ true → r ≡ t → not r ≡ not (eqb g 9 && x && t)
-data_some g x t r e h k = rw (eq-eqb g 9 e, h) (ap not k)
+no_length : (n : ℕ) → eqb n 0 ≡ not (leb 1 n)
+no_length n = by (eqb n 0) (λ q. q ∙ sym (ap (λ (k : ℕ). not (leb 1 k)) (eqb-true n 0 q))) (λ q. q ∙ sym (ap not (le-leb 1 n (omega (arith, eqb-false n 0 q)))))
 
-pub data_no : (g : ℕ) (x t : Bool) → x ≡ false → true ≡ not (eqb g 9 && x && t)
-data_no g x t h = rw h (go (eqb g 9))
-  where
-    go : (b : Bool) → true ≡ not (b && false && t)
-    go true = refl
-    go false = refl
+module _ (v : Parsed) where
+  abbrev expr : Bool
+  expr = has_load 19 v.values
 
-pub data_other : (g : ℕ) (x t : Bool) → (g ≡ 9 → ⊥) → true ≡ not (eqb g 9 && x && t)
-data_other g x t h = rw (ne_eqb g 9 h)
+  abbrev long : Bool
+  long = leb 1 (trimmed_in v.text)
+
+  abbrev some_expr : Bool
+  some_expr = leb 1 (length (value_in 19 v.values))
+
+  abbrev Told : (g k : ℕ) → Bool
+  Told g k = not (eqb g 9 && expr && long) && not (eqb g 15 && expr && eqb k 2) && not (eqb g 23 && some_expr && eqb k 2)
+
+  apart_as : (g k : ℕ) → v.tag ≡ g → v.kind ≡ k → Told g k ≡ text_apart_in v
+  unfolding text_apart_in
+  apart_as g k eg ek = sym (ap₂ Told eg ek)
+
+  pub apart_no_text : (v.kind ≡ 2 → ⊥) → long ≡ false → true ≡ text_apart_in v
+  unfolding text_apart_in
+  apart_no_text h e = sym (rw (e, ne_eqb v.kind 2 h) (go (eqb v.tag 9) (eqb v.tag 15) (eqb v.tag 23)))
+    where
+      go : (a b c : Bool) → (not (a && expr && false) && not (b && expr && false) && not (c && some_expr && false)) ≡ true
+      go a b c = rw (and_no (a && expr), and_no (b && expr), and_no (c && some_expr))
+
+  module _ (whole : v.kind ≡ 2) where
+    pub apart_data : v.tag ≡ 9 → not (expr && long) ≡ text_apart_in v
+    apart_data e = sym (and_true _ ∙ and_true _) ∙ apart_as 9 2 e whole
+
+    pub apart_content : v.tag ≡ 15 → not expr ≡ text_apart_in v
+    apart_content e = sym (and_true _ ∙ ap not (and_true expr)) ∙ apart_as 15 2 e whole
+
+    pub apart_assign : v.tag ≡ 23 → (w : List ℕ) → w ≡ value_in 19 v.values → eqb (length w) 0 ≡ text_apart_in v
+    apart_assign e w ew = no_length (length w) ∙ ap (λ (x : List ℕ). not (leb 1 (length x))) ew ∙ sym (ap not (and_true some_expr)) ∙ apart_as 23 2 e whole
+
+    pub apart_any : (v.tag ≡ 9 → ⊥) → (v.tag ≡ 15 → ⊥) → (v.tag ≡ 23 → ⊥) → true ≡ text_apart_in v
+    unfolding text_apart_in
+    apart_any a b c = rw (ne_eqb v.tag 9 a, ne_eqb v.tag 15 b, ne_eqb v.tag 23 c) refl
 
 -- ---- two ways to tell which keys are there, alike on the keys that are asked for
 
@@ -195,44 +227,55 @@ module _ (P f h : ℕ → Bool) (e : (n : ℕ) → P n ≡ true → f n ≡ h n)
   unfolding apart_by
   apart_alike w = pairs_alike exclusions w
 
--- Only keys below 31 are asked for.
-abbrev low : ℕ → Bool
-low n = ltb n 31
-
-module _ (src : List ℕ) (p : Plain) (ix : Keyed) (e : ix ≡ keyed_of (take p.count p.slots)) where
-  abbrev vs : List Load
-  vs = loads_in src (take p.count p.slots)
-
-  there : (k : ℕ) → k < 31 → is_marked ix k ≡ has_load k vs
-  there k low = marked_has src k low (take p.count p.slots) ix e (is_marked ix k) refl
-
-  pub text_is : p.kind ≡ 2 → (d₀ x : Bool) (v : List ℕ) → x ≡ is_marked ix 19 → v ≡ keyed_bytes src ix 19 → d₀ ≡ not (eqb p.tag 9 && x && leb 1 (trimmed_in (parsed_in src p).text))
-      → (d₀ && not (eqb p.tag 15 && x) && not (eqb p.tag 23 && leb 1 (length v))) ≡ text_apart_in (parsed_in src p)
-  unfolding text_apart_in parsed_in
-  text_is whole d₀ x v ex ev ed =
-      let q : x ≡ has_load 19 vs = ex ∙ there 19 (omega arith) in
-      let t : Bool = leb 1 (trimmed_in (text_if p.kind (part src p.text.at p.text.len))) in
-      let y : (b : Bool) → b ≡ (b && eqb p.kind 2) = λ b. sym (ap (λ (z : Bool). b && z) (eq-eqb p.kind 2 whole) ∙ and_true b) in
-      ap (λ (d : Bool). d && not (eqb p.tag 15 && x) && not (eqb p.tag 23 && leb 1 (length v))) ed
-      ∙ ap₂ (λ (b c : Bool). not (eqb p.tag 9 && x && t) && not b && not c) (y (eqb p.tag 15 && x)) (y (eqb p.tag 23 && leb 1 (length v)))
-      ∙ ap₂ (λ (b : Bool) (w : List ℕ). not (eqb p.tag 9 && b && t) && not (eqb p.tag 15 && b && eqb p.kind 2) && not (eqb p.tag 23 && leb 1 (length w) && eqb p.kind 2)) q (keyed_value src 19 (omega arith) (take p.count p.slots) ix e v ev)
-
-  alike : (n : ℕ) → low n ≡ true → is_marked ix n ≡ has_load n vs
-  alike n q = there n (ltb-true n 31 q)
-
-  pub six : left_out_by (is_marked ix) p.tag ≡ (asked_in (parsed_in src p)).omitted
-  unfolding asked_in parsed_in
-  six = left_alike low (is_marked ix) (λ n. has_load n vs) alike p.tag refl refl
-
-  pub ten : complete_by (is_marked ix) p.tag ≡ (asked_in (parsed_in src p)).complete
-  unfolding asked_in parsed_in all_in lists_in keys_in requirements
-  ten = complete_alike low (is_marked ix) (λ n. has_load n vs) alike p.tag refl
-
-  pub eleven : (apart_by (is_marked ix) p.tag && text_apart_in (parsed_in src p)) ≡ (asked_in (parsed_in src p)).apart
-  unfolding asked_in parsed_in pairs_in exclusions
-  eleven = ap (λ (b : Bool). b && text_apart_in (parsed_in src p)) (apart_alike low (is_marked ix) (λ n. has_load n vs) alike p.tag refl)
-
 -- ---- the first no
+
+-- Of two tests, as the code asks them.
+pub neither : (b c : Bool) → (b && not c) ≡ true → (not b || c) ≡ false
+neither true true e = true_is_false (sym e)
+neither true false e = refl
+neither false c e = true_is_false (sym e)
+
+pub either : (b c : Bool) → (b && not c) ≡ false → (not b || c) ≡ true
+either true true e = refl
+either true false e = true_is_false e
+either false c e = refl
+
+below : (m n : ℕ) → leb n m ≡ not (ltb m n)
+below m n = by (ltb m n) (λ q. lt-leb n m (ltb-true m n q) ∙ sym (ap not q)) (λ q. le-leb n m (ltb-false m n q) ∙ sym (ap not q))
+
+pub taken_no : (a b m n : ℕ) → (leb m a || leb n b) ≡ true → (ltb a m && ltb b n) ≡ false
+taken_no a b m n e = go (ltb a m) (ltb b n) (sym (ap₂ ◌||◌ (below a m) (below b n)) ∙ e)
+  where
+    go : (x y : Bool) → (not x || not y) ≡ true → (x && y) ≡ false
+    go true true e = true_is_false (sym e)
+    go true false e = refl
+    go false y e = refl
+
+pub taken_yes : (a b m n : ℕ) → (leb m a || leb n b) ≡ false → (ltb a m && ltb b n) ≡ true
+taken_yes a b m n e = go (ltb a m) (ltb b n) (sym (ap₂ ◌||◌ (below a m) (below b n)) ∙ e)
+  where
+    go : (x y : Bool) → (not x || not y) ≡ false → (x && y) ≡ true
+    go true true e = refl
+    go true false e = true_is_false e
+    go false y e = true_is_false e
+
+pub refused : (r : Refusal) → refusal_number r ≡ 0 → ⊥
+refused R.TooShort e = omega (arith, e)
+refused R.OutOfOrder e = omega (arith, e)
+refused R.NotInForm e = omega (arith, e)
+refused R.RepeatedKey e = omega (arith, e)
+refused R.WrongEnd e = omega (arith, e)
+refused R.LeftOut e = omega (arith, e)
+refused R.TooDeep e = omega (arith, e)
+refused R.WrongParent e = omega (arith, e)
+refused R.SecondScxml e = omega (arith, e)
+refused R.Missing e = omega (arith, e)
+refused R.Together e = omega (arith, e)
+refused R.UnknownWord e = omega (arith, e)
+refused R.InitialSet e = omega (arith, e)
+refused R.NoIf e = omega (arith, e)
+refused R.Full e = omega (arith, e)
+refused R.NoRow e = omega (arith, e)
 
 module _ (b : Bool) (k : ℕ) (qs : List Question) where
   pub no_here : b ≡ false → k ≡ first_no (record { yes = b; otherwise = k } ∷ qs)
@@ -304,66 +347,52 @@ module _ (start : Bool) (g : ℕ) (done : Bool) (depth parent root : ℕ) where
       go true false c d e = unfold first_no in absurd (omega (arith, e))
       go false b c d e = unfold first_no in absurd (omega (arith, e))
 
-module _ (src : List ℕ) (p : Plain) (ix : Keyed) (e : ix ≡ keyed_of (take p.count p.slots)) (h : Heard) (eh : h.tag ≡ p.tag) (inner : Bool) (depth parent root : ℕ) where
+module _ (v : Parsed) (h : Heard) (inner : Bool) (depth parent root : ℕ) where
   abbrev a : Asked
-  a = asked_in (parsed_in src p)
+  a = asked_in v
 
   abbrev Q : ℕ
   Q = first_no (questions_by h a inner depth parent root)
 
-  abbrev start : Bool
-  start = not (eqb h.kind 3)
-
   abbrev taken : Bool
   taken = ltb h.binding 2 && ltb h.history 3
 
-  pub no_5 : (start || inner) ≡ false → 5 ≡ Q
+  pub no_5 : (a.start || inner) ≡ false → 5 ≡ Q
   unfolding questions_by
   no_5 x = no_here _ 5 _ x
 
-  module _ (x5 : (start || inner) ≡ true) (l : Bool) (el : l ≡ left_out_by (is_marked ix) p.tag) where
-    out : a.omitted ≡ l
-    out = sym (el ∙ six src p ix e)
-
-    pub no_6 : l ≡ true → 6 ≡ Q
+  module _ (x5 : (a.start || inner) ≡ true) where
+    pub no_6 : a.omitted ≡ true → 6 ≡ Q
     unfolding questions_by
-    no_6 x = no_later _ 5 _ x5 6 (no_here _ 6 _ (ap not (out ∙ x)))
+    no_6 x = no_later _ 5 _ x5 6 (no_here _ 6 _ (ap not x))
 
-    module _ (x6 : l ≡ false) (n : ℕ) (en : n ≡ S start p.tag (complete_by (is_marked ix) p.tag) depth parent root) where
+    module _ (x6 : a.omitted ≡ false) where
       unfoldable late : List Question
       late = record { yes = a.apart; otherwise = 11 } ∷ record { yes = taken; otherwise = 12 } ∷ []
 
-      begins : n ≡ S start h.tag a.complete depth parent root
-      begins = en ∙ ap₂ (λ (g : ℕ) (c : Bool). S start g c depth parent root) (sym eh) (ten src p ix e)
+      begins : ℕ
+      begins = S a.start a.tag a.complete depth parent root
 
-      past : (r : ℕ) → r ≡ first_no (start_by start h.tag a.complete depth parent root ++ late) → r ≡ Q
+      past : (r : ℕ) → r ≡ first_no (start_by a.start a.tag a.complete depth parent root ++ late) → r ≡ Q
       unfolding questions_by late
-      past r x = no_later _ 5 _ x5 r (no_later _ 6 _ (ap not (out ∙ x6)) r x)
+      past r x = no_later _ 5 _ x5 r (no_later _ 6 _ (ap not x6) r x)
 
-      pub no_start : (n ≡ 0 → ⊥) → n ≡ Q
-      no_start x = past n (begins ∙ no_before (start_by start h.tag a.complete depth parent root) late (λ z. x (begins ∙ z)))
+      pub no_start : (n : ℕ) → n ≡ S a.start a.tag a.complete depth parent root → (n ≡ 0 → ⊥) → n ≡ Q
+      no_start n e x = past n (e ∙ no_before (start_by a.start a.tag a.complete depth parent root) late (λ z. x (e ∙ z)))
 
-      module _ (z : n ≡ 0) (k : Bool) (ek : k ≡ apart_by (is_marked ix) p.tag) where
+      module _ (z : S a.start a.tag a.complete depth parent root ≡ 0) where
         after : (r : ℕ) → r ≡ first_no late → r ≡ Q
-        after r x = past r (x ∙ sym (none_before start h.tag a.complete depth parent root (sym begins ∙ z) late))
+        after r x = past r (x ∙ sym (none_before a.start a.tag a.complete depth parent root z late))
 
-        pub no_keys : k ≡ false → 11 ≡ Q
+        pub no_11 : a.apart ≡ false → 11 ≡ Q
         unfolding late
-        no_keys x = after 11 (no_here _ 11 _ (sym (eleven src p ix e) ∙ ap (λ (b : Bool). b && text_apart_in (parsed_in src p)) (sym ek ∙ x)))
+        no_11 x = after 11 (no_here _ 11 _ x)
 
-        module _ (xk : k ≡ true) (t : Bool) (et : t ≡ text_apart_in (parsed_in src p)) where
-          apart : a.apart ≡ t
-          apart = sym (eleven src p ix e) ∙ ap₂ (λ (b c : Bool). b && c) (sym ek ∙ xk) (sym et)
-
-          pub no_text : t ≡ false → 11 ≡ Q
+        module _ (x11 : a.apart ≡ true) where
+          pub no_12 : taken ≡ false → 12 ≡ Q
           unfolding late
-          no_text x = after 11 (no_here _ 11 _ (apart ∙ x))
+          no_12 x = after 12 (no_later _ 11 _ x11 12 (no_here _ 12 [] x))
 
-          module _ (xt : t ≡ true) where
-            pub no_12 : taken ≡ false → 12 ≡ Q
-            unfolding late
-            no_12 x = after 12 (no_later _ 11 _ (apart ∙ xt) 12 (no_here _ 12 [] x))
-
-            pub no_none : taken ≡ true → 0 ≡ Q
-            unfolding late
-            no_none x = after 0 (no_later _ 11 _ (apart ∙ xt) 0 (no_later _ 12 [] x 0 yes_all))
+          pub no_none : taken ≡ true → 0 ≡ Q
+          unfolding late
+          no_none x = after 0 (no_later _ 11 _ x11 0 (no_later _ 12 [] x 0 yes_all))

@@ -52,15 +52,24 @@ text_apart_in v =
 abbrev pub there : Parsed → ℕ → Bool
 there v k = has_load k v.values
 
--- omitted: question 6. complete: 10. apart: 11.
+-- start: whether it is no end, and tag: its element. omitted: question 6. complete: 10. apart: 11.
 pub record Asked : Type 0 where
+  pub start : Bool
+  pub tag : ℕ
   pub omitted : Bool
   pub complete : Bool
   pub apart : Bool
 
 unfoldable pub asked_in : Parsed → Asked
 unfolding left_out_by complete_by apart_by text_apart_in
-asked_in v = record { omitted = left_out_by (there v) v.tag; complete = complete_by (there v) v.tag; apart = apart_by (there v) v.tag && text_apart_in v }
+asked_in v =
+    record {
+      start = not (eqb v.kind kind.ends);
+      tag = v.tag;
+      omitted = left_out_by (there v) v.tag;
+      complete = complete_by (there v) v.tag;
+      apart = apart_by (there v) v.tag && text_apart_in v;
+    }
 
 -- The questions 7 to 10, which an end is not asked.
 unfoldable pub start_by : Bool → ℕ → Bool → ℕ → ℕ → ℕ → List Question
@@ -75,10 +84,9 @@ start_by start g complete depth parent root =
 unfoldable pub questions_by : Heard → Asked → Bool → ℕ → ℕ → ℕ → List Question
 unfolding start_by
 questions_by h a innermost depth parent root =
-    let start : Bool = not (eqb h.kind kind.ends) in
-    ((start || innermost) otherwise 5)
+    ((a.start || innermost) otherwise 5)
     ∷ (not a.omitted otherwise 6)
-    ∷ (start_by start h.tag a.complete depth parent root
+    ∷ (start_by a.start a.tag a.complete depth parent root
     ++ ((a.apart otherwise 11)
     ∷ ((ltb h.binding 2 && ltb h.history 3) otherwise 12)
     ∷ []))

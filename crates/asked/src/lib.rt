@@ -2,188 +2,149 @@
 
 #![tactic(auto)]
 
-ghost use Rattle.std.specs.Prelude.{◌≡◌, not, ◌&&◌, eqb, leb};
+ghost use Rattle.std.specs.Prelude.{◌≡◌, not, ◌&&◌, leb, MatchResult};
+ghost use Rattle.definition.specs.Codes.{tag_number, key_number, refusal_number};
 ghost use Rattle.definition.specs.Elements as E;
 ghost use Rattle.definition.specs.Reader.{first_no};
-ghost use Rattle.plain.specs.Plain.{slots_of, parsed_in};
-ghost use Rattle.plain.specs.Keyed.{keyed_of, is_marked};
-ghost use Rattle.asked.specs.Asked.{left_out_by, complete_by, apart_by, trimmed_in, text_apart_in, asked_in, start_by, questions_by};
+ghost use Rattle.plain.specs.Plain.{parsed_in};
+ghost use Rattle.asked.specs.Asked.{there, apart_by, trimmed_in, text_apart_in, asked_in, start_by, questions_by};
 
 use definition::Chart;
-use definition::codes::{Key, Kind, Tag};
+use definition::codes::{Key, Kind, Refusal, Tag};
 use nesting::parent_allowed;
-use plain::{Keyed, Plain, bytes_of, has, value};
+use plain::indexed::Indexed;
+use plain::{Plain, bytes_of};
 use plan::Heard;
 use words::trim;
 
-// include; data or script with `src`; send with `delay`.
-fn left_out(ix: Keyed, tag: u32) -> bool
-    ensures { result ≡ left_out_by (is_marked ix) tag }
-{
-    if tag == Tag::INCLUDE {
-        return true;
-    }
-    if (tag == Tag::DATA) | (tag == Tag::SCRIPT) {
-        return has(ix, Key::SRC);
-    }
-    if tag == Tag::SEND {
-        return has(ix, Key::DELAY);
-    }
-    false
+/// Where an event stands: whether its name is the innermost open element's, how many elements are open, the tag of the innermost, a number as its row has it (C lends rows of numbers), and the root's number.
+#[derive(Clone, Copy)]
+pub struct Place {
+    pub innermost: bool,
+    pub depth: u32,
+    pub parent: u32,
+    pub root: u32,
 }
 
-fn complete(ix: Keyed, tag: u32) -> bool
-    ensures { result ≡ complete_by (is_marked ix) tag }
+// include; data or script with `src`; send with `delay`.
+fn left_out(event: &Indexed<'_>) -> bool
+    ensures { result ≡ (asked_in (parsed_in event.now.src.now event.now.plain)).omitted }
 {
-    if tag == Tag::DATA {
-        return has(ix, Key::ID);
+    match event.plain.tag {
+        Tag::Include => true,
+        Tag::Data | Tag::Script => event.has(Key::Src),
+        Tag::Send => event.has(Key::Delay),
+        _ => false,
     }
-    if tag == Tag::FOREACH {
-        let array = has(ix, Key::ARRAY);
-        let item = has(ix, Key::ITEM);
-        return array & item;
+}
+
+fn complete(event: &Indexed<'_>) -> bool
+    ensures { result ≡ (asked_in (parsed_in event.now.src.now event.now.plain)).complete }
+{
+    match event.plain.tag {
+        Tag::Data => event.has(Key::Id),
+        Tag::Foreach => event.has(Key::Array) & event.has(Key::Item),
+        Tag::If | Tag::Elseif => event.has(Key::Cond),
+        Tag::Param => event.has(Key::Name),
+        Tag::Assign => event.has(Key::Location),
+        Tag::Raise => event.has(Key::Event),
+        Tag::Cancel => event.has(Key::Sendid) | event.has(Key::Sendidexpr),
+        _ => true,
     }
-    if tag == Tag::IF {
-        return has(ix, Key::COND);
-    }
-    if tag == Tag::ELSEIF {
-        return has(ix, Key::COND);
-    }
-    if tag == Tag::PARAM {
-        return has(ix, Key::NAME);
-    }
-    if tag == Tag::ASSIGN {
-        return has(ix, Key::LOCATION);
-    }
-    if tag == Tag::RAISE {
-        return has(ix, Key::EVENT);
-    }
-    if tag == Tag::CANCEL {
-        let one = has(ix, Key::SENDID);
-        let other = has(ix, Key::SENDIDEXPR);
-        return one | other;
-    }
-    true
+}
+
+// Whether not both keys are there.
+fn not_both(event: &Indexed<'_>, one: Key, other: Key) -> bool
+    ensures { result ≡ not (there (parsed_in event.now.src.now event.now.plain) (key_number one) && there (parsed_in event.now.src.now event.now.plain) (key_number other)) }
+{
+    !(event.has(one) & event.has(other))
 }
 
 // Two keys of one element that exclude each other: three elements have such keys.
-fn keys_apart(ix: Keyed, tag: u32) -> bool
-    ensures { result ≡ apart_by (is_marked ix) tag }
+fn keys_apart(event: &Indexed<'_>) -> bool
+    ensures { result ≡ apart_by (there (parsed_in event.now.src.now event.now.plain)) (tag_number event.now.plain.tag) }
 {
-    let send = Tag::SEND == tag;
-    let cancel = Tag::CANCEL == tag;
-    let param = Tag::PARAM == tag;
-    if !(send | cancel | param) {
-        return true;
+    match event.plain.tag {
+        Tag::Send => {
+            not_both(event, Key::Event, Key::Eventexpr)
+                & not_both(event, Key::Target, Key::Targetexpr)
+                & not_both(event, Key::Type, Key::Typeexpr)
+                & not_both(event, Key::Id, Key::Idlocation)
+        }
+        Tag::Cancel => not_both(event, Key::Sendid, Key::Sendidexpr),
+        Tag::Param => not_both(event, Key::Expr, Key::Location),
+        _ => true,
     }
-    let there = ix.there;
-    let event = send & !(there[Key::EVENT] == 0) & !(there[Key::EVENTEXPR] == 0);
-    let target = send & !(there[Key::TARGET] == 0) & !(there[Key::TARGETEXPR] == 0);
-    let kind = send & !(there[Key::TYPE] == 0) & !(there[Key::TYPEEXPR] == 0);
-    let id = send & !(there[Key::ID] == 0) & !(there[Key::IDLOCATION] == 0);
-    let sendid = cancel & !(there[Key::SENDID] == 0) & !(there[Key::SENDIDEXPR] == 0);
-    let expr = param & !(there[Key::EXPR] == 0) & !(there[Key::LOCATION] == 0);
-    !event & (!target & (!kind & (!id & (!sendid & (!expr & true)))))
 }
 
 // Whether an event has a text that is not white space alone.
-fn has_text(src: &[u8], p: Plain) -> bool
-    ensures { result ≡ leb 1 (trimmed_in (parsed_in src.now p).text) }
+fn has_text(event: &Indexed<'_>) -> bool
+    ensures { result ≡ leb 1 (trimmed_in (parsed_in event.now.src.now event.now.plain).text) }
 {
-    if p.kind == Kind::WHOLE {
-        let t = trim(bytes_of(src, p.text));
-        return 1 <= t.len;
+    if event.plain.kind != Kind::Whole {
+        return false;
     }
-    false
-}
-
-fn data_apart(src: &[u8], p: Plain, tag: u32, expr: bool) -> bool
-    ensures { result ≡ not (eqb tag (E.tag).datum && expr && leb 1 (trimmed_in (parsed_in src.now p).text)) }
-{
-    if tag == Tag::DATA {
-        if expr {
-            return !has_text(src, p);
-        }
-    }
-    true
+    trim(bytes_of(event.src, event.plain.text)).len != 0
 }
 
 // A text beside expr: only a whole event has a text.
-fn text_apart(src: &[u8], p: Plain, ix: Keyed) -> bool
-    requires { ix ≡ keyed_of (slots_of p) }
-    ensures { result ≡ text_apart_in (parsed_in src.now p) }
+fn text_apart(event: &Indexed<'_>) -> bool
+    ensures { result ≡ text_apart_in (parsed_in event.now.src.now event.now.plain) }
 {
-    let tag = p.tag;
-    if p.kind != Kind::WHOLE {
+    if event.plain.kind != Kind::Whole {
         return true;
     }
-    let expr = has(ix, Key::EXPR);
-    let v = value(src, ix, Key::EXPR);
-    let data = data_apart(src, p, tag, expr);
-    data & !((tag == Tag::CONTENT) & expr) & !((tag == Tag::ASSIGN) & (1 <= v.len()))
+    match event.plain.tag {
+        Tag::Data => !(event.has(Key::Expr) && has_text(event)),
+        Tag::Content => !event.has(Key::Expr),
+        Tag::Assign => event.value(Key::Expr).is_empty(),
+        _ => true,
+    }
 }
 
-// How many words a binding and a type may be: one that is not taken has the code after the last.
+// How many words a binding and a type may be, and no kinds: one that is not taken has the code after the last.
 const BINDINGS: u32 = 2;
 
 const TYPES: u32 = 3;
 
-// The first no of the questions 7 to 10, which an end is not asked; 0 if there is none.
-fn start_no(start: bool, ix: Keyed, tag: u32, depth: u32, parent: u32, root: u32) -> u32
-    ensures { result ≡ first_no (start_by start tag (complete_by (is_marked ix) tag) depth parent root) }
+// The questions 7 to 10, which an end is not asked.
+fn may_start(event: &Indexed<'_>, place: Place) -> Result<(), Refusal>
+    ensures { let a = asked_in (parsed_in event.now.src.now event.now.plain) in let no = first_no (start_by a.start a.tag a.complete place.depth place.parent place.root) in MatchResult result (λ u. no ≡ 0) (λ r. refusal_number r ≡ no) }
 {
-    if !start {
-        return 0;
+    if event.plain.kind == Kind::End {
+        return Ok(());
     }
-    if !(depth < Chart::OPENED) {
-        return 7;
+    if Chart::OPENED <= place.depth {
+        return Err(Refusal::TooDeep);
     }
-    if !parent_allowed(tag, parent) {
-        return 8;
+    if !parent_allowed(event.plain.tag.number(), place.parent) {
+        return Err(Refusal::WrongParent);
     }
-    if !(!(tag == Tag::SCXML) | (root == 0)) {
-        return 9;
+    if (event.plain.tag == Tag::Scxml) & (place.root != 0) {
+        return Err(Refusal::SecondScxml);
     }
-    if !complete(ix, tag) {
-        return 10;
+    if !complete(event) {
+        return Err(Refusal::Missing);
     }
-    0
+    Ok(())
 }
 
-// Of the questions 5 to 12, each asked only after a yes to those before it: `depth` elements are open, the innermost has the tag `parent`.
-pub fn first_no(
-    src: &[u8],
-    p: Plain,
-    ix: Keyed,
-    h: Heard,
-    innermost: bool,
-    depth: u32,
-    parent: u32,
-    root: u32,
-) -> u32
-    requires { (h.tag ≡ p.tag) × (ix ≡ keyed_of (slots_of p)) }
-    ensures { result ≡ first_no (questions_by h (asked_in (parsed_in src.now p)) innermost depth parent root) }
+// Of the questions 5 to 12, each asked only after a yes to those before it.
+pub fn first_no(event: &Indexed<'_>, h: Heard, place: Place) -> Result<(), Refusal>
+    ensures { let no = first_no (questions_by h (asked_in (parsed_in event.now.src.now event.now.plain)) place.innermost place.depth place.parent place.root) in MatchResult result (λ u. no ≡ 0) (λ r. refusal_number r ≡ no) }
 {
-    let tag = p.tag;
-    let start = !(h.kind == Kind::END);
-    if !(start | innermost) {
-        return 5;
+    if (event.plain.kind == Kind::End) & !place.innermost {
+        return Err(Refusal::WrongEnd);
     }
-    if left_out(ix, tag) {
-        return 6;
+    if left_out(event) {
+        return Err(Refusal::LeftOut);
     }
-    let no = start_no(start, ix, tag, depth, parent, root);
-    if no != 0 {
-        return no;
+    may_start(event, place)?;
+    if !(keys_apart(event) & text_apart(event)) {
+        return Err(Refusal::Together);
     }
-    if !keys_apart(ix, tag) {
-        return 11;
+    if (BINDINGS <= h.binding) | (TYPES <= h.history) {
+        return Err(Refusal::UnknownWord);
     }
-    if !text_apart(src, p, ix) {
-        return 11;
-    }
-    if (h.binding < BINDINGS) & (h.history < TYPES) {
-        return 0;
-    }
-    12
+    Ok(())
 }

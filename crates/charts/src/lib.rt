@@ -1,22 +1,22 @@
-// The chart's row, states and transitions, written as a plan says. `t` are the event's texts, `tag` its element, n rows are in use.
+// The chart's row, states and transitions, written as a plan says. n rows are in use.
+// A closure takes the element and its texts apart, as in `entries`.
 
 #![tactic(auto)]
 
 ghost use Rattle.std.specs.Prelude.{◌≡◌, set};
-ghost use Rattle.definition.specs.Change.{alter_row};
+ghost use Rattle.definition.specs.Codes.{tag_number};
 ghost use Rattle.plan.specs.After.{state_columns_after};
-ghost use Rattle.tables.specs.Whole.{set_unless};
-ghost use Rattle.entries.specs.Whole.{rooted_by, chart_row, state_row_by, new_transition, old_transition, transitions_in};
+ghost use Rattle.entries.specs.Whole.{rooted_by, chart_row, state_row_by, new_transition, transitions_in, states_in, chart_in};
 
 use definition::cells::{ChartColumn, StateColumn, TransitionColumn};
-use entries::{fill_plus, put_plus};
-use fill::fill;
-use plan::{ChartPlan, StatePlan, TransitionPlan};
+use entries::{fill_if, put_column};
+use fill::Texts;
+use plan::{ChartPlan, NewTransition, Shape, StatePlan, TransitionPlan};
 use rows::{alter, put};
 
 #[tactic(auto, unfolding(entries::specs::Whole::new_transition))]
-fn transition_row(p: TransitionPlan, tag: u32, t: &[u32]) -> [u32; 8]
-    ensures { result ≡ new_transition t.now tag p }
+fn transition_row(p: NewTransition, texts: Texts<'_>) -> [u32; 8]
+    ensures { result ≡ new_transition texts.entry.cells.now (tag_number texts.entry.tag) p }
 {
     let mut row = [0u32; 8];
     row[TransitionColumn::NUMBER] = p.number.0;
@@ -25,29 +25,30 @@ fn transition_row(p: TransitionPlan, tag: u32, t: &[u32]) -> [u32; 8]
     row[TransitionColumn::TYPE] = p.mode;
     row[TransitionColumn::WILDCARD] = p.wildcard;
     row[TransitionColumn::CONTENT] = p.content.0;
-    fill_plus(&mut row, tag, p.texts, t);
+    fill_if(&mut row, texts, p.texts);
     row
 }
 
+#[tactic(auto, unfolding(entries::specs::Whole::transitions_in, plan::specs::After::altered_if, tables::specs::Whole::added_in))]
 pub fn change_transitions(
     transitions: &mut [[u32; 8]],
     n: usize,
     p: TransitionPlan,
-    tag: u32,
-    t: &[u32],
+    texts: Texts<'_>,
 )
-    ensures { transitions.new ≡ transitions_in t.now tag p n transitions.old }
+    ensures { transitions.new ≡ transitions_in texts.entry.cells.now (tag_number texts.entry.tag) p n transitions.old }
 {
-    if p.number.0 != 0 {
-        put(transitions, n, transition_row(p, tag, t));
+    if let Some(new) = p.added {
+        put(transitions, n, transition_row(new, texts));
     }
+    let Some(change) = p.altered else { return };
     alter(
         transitions,
-        p.at,
+        change.at,
         |mut row: [u32; 8]|
-            ensures { result ≡ set row 5 p.region.0 }
+            ensures { result ≡ set row 5 change.content.0 }
         {
-            row[TransitionColumn::CONTENT] = p.region.0;
+            row[TransitionColumn::CONTENT] = change.content.0;
             row
         },
     );
@@ -57,65 +58,71 @@ pub fn change_transitions(
 fn put_columns(row: &mut [u32], p: StatePlan)
     ensures { row.new ≡ state_columns_after p row.old }
 {
-    put_plus(row, StateColumn::INITIAL, p.initial);
-    put_plus(row, StateColumn::DOC, p.doc);
-    put_plus(row, StateColumn::PARENT, p.parent);
-    put_plus(row, StateColumn::PARALLEL, p.parallel);
-    put_plus(row, StateColumn::FINAL, p.ends);
-    put_plus(row, StateColumn::HISTORY, p.history);
-    put_plus(row, StateColumn::DONEDATA, p.donedata);
-    put_plus(row, StateColumn::HAS_CONTENT, p.filled);
+    put_column(row, StateColumn::INITIAL, p.initial);
+    put_column(row, StateColumn::DOC, p.doc);
+    put_column(row, StateColumn::PARENT, p.parent);
+    put_column(row, StateColumn::PARALLEL, p.parallel);
+    put_column(row, StateColumn::FINAL, p.ends);
+    put_column(row, StateColumn::HISTORY, p.history);
+    put_column(row, StateColumn::DONEDATA, p.donedata);
+    put_column(row, StateColumn::HAS_CONTENT, p.filled);
 }
 
 #[tactic(auto, unfolding(entries::specs::Whole::state_row_by))]
-fn state_changed(mut row: [u32; 24], p: StatePlan, tag: u32, t: &[u32]) -> [u32; 24]
-    ensures { result ≡ state_row_by t.now tag p row }
+fn state_changed(mut row: [u32; 24], p: StatePlan, texts: Texts<'_>) -> [u32; 24]
+    ensures { result ≡ state_row_by texts.entry.cells.now (tag_number texts.entry.tag) p row }
 {
-    fill_plus(&mut row, tag, p.texts, t);
+    fill_if(&mut row, texts, p.texts);
     put_columns(&mut row, p);
     row
 }
 
-pub fn change_states(states: &mut [[u32; 24]], p: StatePlan, tag: u32, t: &[u32])
-    ensures { states.new ≡ alter_row p.at.0 (state_row_by t.now tag p) states.old }
+#[tactic(auto, unfolding(entries::specs::Whole::states_in, plan::specs::After::altered_if))]
+pub fn change_states(states: &mut [[u32; 24]], p: Option<StatePlan>, texts: Texts<'_>)
+    ensures { states.new ≡ states_in texts.entry.cells.now (tag_number texts.entry.tag) p states.old }
 {
+    let Some(change) = p else { return };
+    let Texts { tag, cells } = texts;
     alter(
         states,
-        p.at.0,
+        change.at.0,
         |row|
-            ensures { result ≡ state_row_by t.entry.now tag p row }
-        { state_changed(row, p, tag, t) },
+            ensures { result ≡ state_row_by cells.entry.now (tag_number tag) change row }
+        { state_changed(row, change, Texts { tag, cells }) },
     );
 }
 
-#[tactic(auto, unfolding(entries::specs::Whole::rooted_by))]
-fn put_root(row: &mut [u32], tag: u32, s: u32, t: &[u32])
-    ensures { row.new ≡ rooted_by t.now tag s row.old }
+#[tactic(auto, unfolding(entries::specs::Whole::rooted_by, entries::specs::Whole::texts_by))]
+fn put_root(row: &mut [u32], texts: Texts<'_>, root: Option<u32>)
+    ensures { row.new ≡ rooted_by texts.entry.cells.now (tag_number texts.entry.tag) root row.old }
 {
-    if s != 0 {
-        fill(row, tag, 0, t);
-        put(row, ChartColumn::ROOT, s - 1);
+    if let Some(root) = root {
+        texts.fill(row, Shape::First);
+        put(row, ChartColumn::ROOT, root);
     }
 }
 
 #[tactic(auto, unfolding(entries::specs::Whole::chart_row))]
-fn chart_changed(mut row: [u32; 24], p: ChartPlan, tag: u32, t: &[u32]) -> [u32; 24]
-    ensures { result ≡ chart_row t.now tag p row }
+fn chart_changed(mut row: [u32; 24], p: ChartPlan, texts: Texts<'_>) -> [u32; 24]
+    ensures { result ≡ chart_row texts.entry.cells.now (tag_number texts.entry.tag) p row }
 {
-    put_plus(&mut row, ChartColumn::BINDING, p.binding);
-    put_root(&mut row, tag, p.root, t);
-    put_plus(&mut row, ChartColumn::SCRIPT, p.script);
+    put_column(&mut row, ChartColumn::BINDING, p.binding);
+    put_root(&mut row, texts, p.root);
+    put_column(&mut row, ChartColumn::SCRIPT, p.script);
     row
 }
 
-pub fn change_chart(chart: &mut [[u32; 24]], p: ChartPlan, tag: u32, t: &[u32])
-    ensures { chart.new ≡ alter_row p.at (chart_row t.now tag p) chart.old }
+#[tactic(auto, unfolding(entries::specs::Whole::chart_in, plan::specs::After::altered_if))]
+pub fn change_chart(chart: &mut [[u32; 24]], p: Option<ChartPlan>, texts: Texts<'_>)
+    ensures { chart.new ≡ chart_in texts.entry.cells.now (tag_number texts.entry.tag) p chart.old }
 {
+    let Some(change) = p else { return };
+    let Texts { tag, cells } = texts;
     alter(
         chart,
-        p.at,
+        1,
         |row|
-            ensures { result ≡ chart_row t.entry.now tag p row }
-        { chart_changed(row, p, tag, t) },
+            ensures { result ≡ chart_row cells.entry.now (tag_number tag) change row }
+        { chart_changed(row, change, Texts { tag, cells }) },
     );
 }

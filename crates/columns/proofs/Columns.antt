@@ -1,15 +1,15 @@
 -- A row's columns, tested one by one, as one expression.
-use mathlib.Core.Path.{◌≡◌, refl, sym, ◌∙◌}
+use mathlib.Core.Path.{◌≡◌, refl, sym, ap, ◌∙◌}
 use mathlib.Core.Bool.{Bool, true, false, ◌&&◌, ◌||◌, not}
 use mathlib.Core.List.{List, [], ◌∷◌, ◌++◌}
-use Prim.Native.Nat.{ℕ, zero, suc, ◌+◌, ◌-◌, ◌≤◌, ◌<◌}
+use Prim.Native.Nat.{ℕ, zero, suc, ◌+◌, ◌-◌, ◌*◌, ◌/◌, ◌≤◌, ◌<◌}
 use native.Mathlib.Omega.{arith}
 use lib.Dec.{eqb, leb, leb-zero, leb-suc-suc}
-use lib.ListN.{length, get_or, drop, drop_of_length-le, replicate}
-use lib.Seq.{drop-cons}
+use lib.ListN.{length, get_or, take, drop, drop_of_length-le, length-drop, replicate}
+use lib.Seq.{drop-cons, length-take-le, get_or-take, get_or-drop}
 use Rattle.definition.specs.Rows.{Row, Table, Class, free, own, doc_id, above, mark, len, code, row, existing, text, by, spare, num, Store}
 use native.Mathlib.Numerals.{add-one}
-use borrow.Author.Tests.{ne_eqb, le-leb, lt-leb}
+use borrow.Author.Tests.{ne_eqb, le-leb, lt-leb, eqb-true, eqb-false}
 use Rattle.definition.specs.Elements.{Role}
 use Rattle.columns.specs.Cells.{texts_inside, zeros_from}
 use Rattle.definition.specs.Rules.{is_inside, following, chosen, keeps, columns_keep, rows_keep}
@@ -85,6 +85,14 @@ module _ (used : ℕ) (r : Row) (at : ℕ) {x y : ℕ} {b : Bool} (ex : x ≡ nu
   texts_stop zero h e = let z : ⊥ = omega arith in absurd z
   texts_stop (suc n) h e = let v : is_inside used (num r at) (num r (suc at)) ≡ false = rw (← add-one at, ← ex, ← ey, ← eb) e in rw v
 
+  pub texts_step : (k : Bool) (n : ℕ) → 0 < n → (k && b) && texts_inside used r (at + 2) (n - 1) ≡ k && texts_inside used r at n
+  texts_step false n h = refl
+  texts_step true n h = go b refl
+    where
+      go : (c : Bool) → b ≡ c → b && texts_inside used r (at + 2) (n - 1) ≡ texts_inside used r at n
+      go true e = rw e (texts_more n h e)
+      go false e = rw e (texts_stop n h e)
+
 pub texts_end : (used : ℕ) (r : Row) (at n : ℕ) → n ≤ 0 → true ≡ texts_inside used r at n
 unfolding texts_inside
 texts_end used r at zero h = refl
@@ -137,6 +145,14 @@ module _ (r : Row) (at : ℕ) {x : ℕ} (ex : x ≡ num r at) where
   zeros_stop zero h e = let z : ⊥ = omega arith in absurd z
   zeros_stop (suc n) h e = rw (← ex, ne_eqb x 0 e)
 
+  pub zeros_step : (k : Bool) (n : ℕ) → 0 < n → (k && eqb x 0) && zeros_from r (at + 1) (n - 1) ≡ k && zeros_from r at n
+  zeros_step false n h = refl
+  zeros_step true n h = go (eqb x 0) refl
+    where
+      go : (c : Bool) → eqb x 0 ≡ c → eqb x 0 && zeros_from r (at + 1) (n - 1) ≡ zeros_from r at n
+      go true e = rw e (zeros_more n h (eqb-true _ _ e))
+      go false e = rw e (zeros_stop n h (eqb-false _ _ e))
+
 pub zeros_end : (r : Row) (at n : ℕ) → n ≤ 0 → true ≡ zeros_from r at n
 unfolding zeros_from
 zeros_end r at zero h = refl
@@ -160,3 +176,40 @@ rows_end s cs t i h = rw (drop_of_length-le t h)
 pub next_is : (v n : ℕ) → leb (v - 1) n ≡ leb v (suc n)
 next_is zero n = leb-zero n ∙ sym (leb-zero (suc n))
 next_is (suc v) n = let e : suc v - 1 ≡ v = omega arith in rw e (sym (leb-suc-suc v n))
+
+-- ---- a run of columns as a slice of its row
+
+module _ (r : Row) (i m : ℕ) (h : i + m ≤ length r) where
+  abbrev part : Row
+  part = take (i + m - i) (drop i r)
+
+  part_length : length part ≡ m
+  part_length = omega (arith, length-take-le (i + m - i) (drop i r) (omega (arith, length-drop i r)))
+
+  part_at : (j : ℕ) → j < m → num part j ≡ num r (i + j)
+  part_at j l = get_or-take (i + m - i) (drop i r) j 0 (omega arith) ∙ get_or-drop i r j 0
+
+  zeros_at : (j n : ℕ) → j + n ≤ m → zeros_from part j n ≡ zeros_from r (i + j) n
+  unfolding zeros_from
+  zeros_at j zero l = refl
+  zeros_at j (suc n) l =
+      let k : i + suc j ≡ suc (i + j) = omega arith in
+      rw (part_at j (omega arith), zeros_at (suc j) n (omega arith), k)
+
+  texts_at : (used j n : ℕ) → j + 2 * n ≤ m → texts_inside used part j n ≡ texts_inside used r (i + j) n
+  unfolding texts_inside
+  texts_at used j zero l = refl
+  texts_at used j (suc n) l =
+      let k : i + suc j ≡ suc (i + j) = omega arith in
+      let k₂ : i + suc (suc j) ≡ suc (suc (i + j)) = omega arith in
+      rw (part_at j (omega arith), part_at (suc j) (omega arith), texts_at used (suc (suc j)) n (omega arith), k, k₂)
+
+  pub zeros_part : {b : Bool} → b ≡ zeros_from part 0 (length part) → b ≡ zeros_from r i m
+  zeros_part e =
+      let k : i + 0 ≡ i = omega arith in
+      e ∙ ap (zeros_from part 0) part_length ∙ zeros_at 0 m (omega arith) ∙ ap (λ (n : ℕ). zeros_from r n m) k
+
+  pub texts_part : (used : ℕ) {b : Bool} → b ≡ texts_inside used part 0 (length part / 2) → b ≡ texts_inside used r i (m / 2)
+  texts_part used e =
+      let k : i + 0 ≡ i = omega arith in
+      e ∙ ap (λ (n : ℕ). texts_inside used part 0 (n / 2)) part_length ∙ texts_at used 0 (m / 2) (omega arith) ∙ ap (λ (n : ℕ). texts_inside used r n (m / 2)) k

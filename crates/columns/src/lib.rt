@@ -2,7 +2,7 @@
 
 #![tactic(auto)]
 
-ghost use Rattle.std.specs.Prelude.{◌≡◌, ◌&&◌, ◌||◌, not, suc, ◌+◌, ◌*◌, ◌≤◌, length, eqb, leb, ltb};
+ghost use Rattle.std.specs.Prelude.{◌≡◌, ◌&&◌, ◌||◌, not, suc, ◌+◌, ◌*◌, ◌/◌, ◌≤◌, length, eqb, leb, ltb};
 ghost use Rattle.definition.specs.Rows.{num};
 ghost use Rattle.definition.specs.Rules.{is_inside};
 ghost use Rattle.definition.specs.Actions.{place_of_number};
@@ -23,14 +23,15 @@ pub fn inside(used: u32, at: u32, len: u32) -> bool
     (u64::from(at) + u64::from(len) <= u64::from(used) + 1) & ((at != 0) | (len == 0))
 }
 
-// 1 where a number is not below another, else 0: computed, since a branch on it is guessed wrong every second time in a search.
+// 1 where a number is not below another, else 0: computed, since a branch on it is guessed wrong every second time in a search. `usize::from` of the comparison
+// becomes such a branch too: question 2 on full tables takes 512 microseconds with it, and 283 without. The library's searches branch as well.
 fn reaches(number: u32, other: u32) -> usize
     ensures { Reaches number other result }
 {
     ((u64::from(number) + 4294967296 - u64::from(other)) / 4294967296) as usize
 }
 
-// Whether a row has the number, by halves.
+// Whether a row has the number, by halves: a loop with a condition, since the library's searches branch.
 fn has_number(rows: &[[u32; 8]], number: u32) -> bool
     requires { Rising rows.now }
     ensures { result ≡ leb 1 (place_of_number rows.now number) }
@@ -58,31 +59,26 @@ fn is_numbered(rows: &[[u32; 8]], number: u32) -> bool
     has_number(rows, number)
 }
 
-// A run of texts in a row, the first at column `from`.
-pub fn texts(row: &[u32], from: usize, count: usize, used: u32) -> bool
-    requires { from + 2 * count ≤ length row.now }
-    ensures { result ≡ texts_inside used row.now from count }
+// A run of texts. Each is asked, also behind one that is wrong: a run without a branch is unrolled.
+pub fn texts(cells: &[u32], used: u32) -> bool
+    ensures { result ≡ texts_inside used cells.now 0 (length cells.now / 2) }
 {
-    for i in 0..count {
-        let at = from + 2 * i;
-        if !inside(used, row[at], row[at + 1]) {
-            return false;
-        }
+    let mut keeps = true;
+    for i in 0..cells.len() / 2 {
+        keeps &= inside(used, cells[2 * i], cells[2 * i + 1]);
     }
-    true
+    keeps
 }
 
 // A run of spare columns.
-pub fn zeros(row: &[u32], from: usize, count: usize) -> bool
-    requires { from + count ≤ length row.now }
-    ensures { result ≡ zeros_from row.now from count }
+pub fn zeros(cells: &[u32]) -> bool
+    ensures { result ≡ zeros_from cells.now 0 (length cells.now) }
 {
-    for i in 0..count {
-        if row[from + i] != 0 {
-            return false;
-        }
+    let mut keeps = true;
+    for cell in cells {
+        keeps &= *cell == 0;
     }
-    true
+    keeps
 }
 
 // 0, or the number of a row that is numbered by creation.
@@ -99,7 +95,7 @@ pub fn up_to_next(v: u32, count: u32) -> bool
     v.saturating_sub(1) <= count
 }
 
-// A test for each type of number: the types keep states, transitions and regions apart, and a generic test would have to undo that.
+// A test for each type of number that a column keeps: the types keep states, transitions and regions apart, and a generic test would have to undo that.
 impl<'a> Known<'a> {
     pub fn is_state(&self, s: StateId) -> bool
         ensures { result ≡ (leb 1 s.0 && leb s.0 self.now.states) }
@@ -113,37 +109,27 @@ impl<'a> Known<'a> {
         up_to(s.0, self.states)
     }
 
-    fn is_transition(&self, t: TransitionId) -> bool
-        ensures { result ≡ (not (eqb t.0 0) && leb 1 (place_of_number self.now.transitions.now t.0)) }
-    {
-        is_numbered(self.transitions, t.0)
-    }
-
+    // Two types of number, so that one given for the other does not compile (a rule of the project).
     pub fn transition_or_zero(&self, t: TransitionId) -> bool
         ensures { result ≡ (eqb t.0 0 || (not (eqb t.0 0) && leb 1 (place_of_number self.now.transitions.now t.0))) }
     {
-        (t.0 == 0) | self.is_transition(t)
-    }
-
-    fn is_region(&self, g: RegionId) -> bool
-        ensures { result ≡ (not (eqb g.0 0) && leb 1 (place_of_number self.now.regions.now g.0)) }
-    {
-        is_numbered(self.regions, g.0)
+        (t.0 == 0) | is_numbered(self.transitions, t.0)
     }
 
     pub fn region_or_zero(&self, g: RegionId) -> bool
         ensures { result ≡ (eqb g.0 0 || (not (eqb g.0 0) && leb 1 (place_of_number self.now.regions.now g.0))) }
     {
-        (g.0 == 0) | self.is_region(g)
+        (g.0 == 0) | is_numbered(self.regions, g.0)
     }
 
     // 0, or a region above the one that holds the entry.
     fn region_above(&self, g: RegionId, holder: RegionId) -> bool
         ensures { result ≡ (eqb g.0 0 || ((not (eqb g.0 0) && leb 1 (place_of_number self.now.regions.now g.0)) && ltb holder.0 g.0)) }
     {
-        (g.0 == 0) | (self.is_region(g) & (holder.0 < g.0))
+        (g.0 == 0) | (is_numbered(self.regions, g.0) & (holder.0 < g.0))
     }
 
+    // Here and in the next four a kind, an owner and a list are numbers, as rows hold them: C lends rows of numbers.
     /// Content by the entry's kind: above in an if and a foreach, 0 or existing in the others.
     pub fn content_keeps(&self, kind: u32, g: RegionId, holder: RegionId) -> bool
         ensures { ChoiceTest self.now 0 kind holder.0 g.0 result }
@@ -210,8 +196,8 @@ impl<'a> Known<'a> {
             ListKind::Children | ListKind::History | ListKind::Targets => {
                 self.is_state(StateId(v))
             }
-            ListKind::Onentry | ListKind::Onexit => self.is_region(RegionId(v)),
-            ListKind::Transitions => self.is_transition(TransitionId(v)),
+            ListKind::Onentry | ListKind::Onexit => is_numbered(self.regions, v),
+            ListKind::Transitions => is_numbered(self.transitions, v),
             _ => v == 0,
         }
     }

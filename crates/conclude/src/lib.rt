@@ -4,13 +4,13 @@
 
 ghost use Rattle.plain.specs.Plain.{parsed_in};
 ghost use Rattle.rows.specs.Lent.{lent_of, SameLoans};
-ghost use Rattle.settle.specs.Settled.{InForm, Settles};
+ghost use Rattle.settle.specs.Settled.{InForm};
 ghost use Rattle.conclude.specs.Fed.{given, Answers};
 
 use definition::Position;
 use plain::Plain;
 use rows::lent::Lent;
-use settle::{Settled, settle};
+use settle::settle;
 use write::write;
 
 // A number and no Result: C takes it as it is.
@@ -22,32 +22,20 @@ pub struct Answer {
     pub position: Position,
 }
 
-// What is settled, written if it is accepted. A refusal gives the position back as it came.
-fn conclude(lent: &mut Lent<'_>, p: Position, src: &[u8], pl: Plain, s: Settled) -> Answer
-    requires in_form { InForm (lent_of lent.old) p (parsed_in src.now pl) }
-    requires settles { Settles (lent_of lent.old) p (parsed_in src.now pl) s }
-    ensures answers { Answers (lent_of lent.old) p (parsed_in src.now pl) (given result.number result.position (lent_of lent.new)) }
-    ensures loans { SameLoans lent.old lent.new }
-{
-    if s.number != 0 {
-        return Answer {
-            number: s.number,
-            position: p,
-        };
-    }
-    let position = write(lent, p, src, pl, s.made, s.charge, s.plan);
-    Answer {
-        number: 0,
-        position,
-    }
-}
-
-/// An event whose parts stand unescaped in `src`.
+/// An event whose parts stand unescaped in `src`. A refusal gives the position back as it came, and writes nothing.
 pub fn feed_parsed(lent: &mut Lent<'_>, p: Position, src: &[u8], pl: Plain) -> Answer
     requires { InForm (lent_of lent.old) p (parsed_in src.now pl) }
     ensures answers { Answers (lent_of lent.old) p (parsed_in src.now pl) (given result.number result.position (lent_of lent.new)) }
     ensures loans { SameLoans lent.old lent.new }
 {
-    let s = settle(lent.tables(), p, src, pl);
-    conclude(lent, p, src, pl, s)
+    match settle(lent.tables(), p, src, pl) {
+        Err(refusal) => Answer {
+            number: refusal.number(),
+            position: p,
+        },
+        Ok(effect) => Answer {
+            number: 0,
+            position: write(lent, p, src, pl, effect),
+        },
+    }
 }

@@ -1,8 +1,9 @@
 -- The count is the plan's: question 15 of a store and a look.
 use Prim.Native.Nat.{◌≤◌}
-use mathlib.Core.Path.{◌≡◌, refl}
+use mathlib.Core.Path.{◌≡◌, refl, sym}
 use mathlib.Core.Bool.{Bool, true}
 use mathlib.Core.List.{[]}
+use Rattle.std.specs.Prelude.{Option, Some, None}
 use lib.ListN.{length, drop, length-drop}
 use borrow.Author.Tests.{le-leb}
 use Rattle.std.proofs.Math.Bool.{and_assoc}
@@ -14,13 +15,19 @@ use Rattle.definition.specs.Reader.{all_at_most, rows_in, position_of}
 use Rattle.definition.proofs.Base.{and_true}
 use Rattle.definition.proofs.Lending.{most_cons}
 use Rattle.plan.specs.declared.Plan.{Plan}
+use Rattle.plan.specs.declared.TargetPlan.{TargetPlan}
 use Rattle.plan.specs.declared.MembersPlan.{MembersPlan}
-use Rattle.plan.specs.Decided.{members_added, counts_after, stays_within}
-use Rattle.decide.specs.Within.{members_more, rows_within, drawn_within, within}
+use Rattle.plan.specs.Decided.{targets_added, members_added, counts_after, stays_within}
+use Rattle.decide.specs.Within.{targets_more, members_more, rows_within, drawn_within, within}
+
+targets_counted : (l : Look) (t : Option TargetPlan) → targets_more t (length l.refs) ≡ targets_added l t
+unfolding targets_more targets_added
+targets_counted l None = refl
+targets_counted l (Some t) = sym (length-drop t.skip l.refs)
 
 members_counted : (l : Look) (m : MembersPlan) → members_more m (length l.refs) ≡ members_added l m
 unfolding members_more members_added
-members_counted l m = rw (length-drop m.skip l.refs)
+members_counted l m = rw (targets_counted l m.targets)
 
 none_left : all_at_most [] [] ≡ true
 unfolding all_at_most

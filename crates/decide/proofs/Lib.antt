@@ -1,3 +1,1 @@
-pub mod Arms
 pub mod Counted
-pub mod Counts

@@ -2,14 +2,15 @@
 
 #![tactic(auto)]
 
-ghost use Rattle.std.specs.Prelude.{◌≡◌, ◌<◌, MatchResult};
-ghost use Rattle.plan.specs.Plan.{keeping, counting, inside, member};
+ghost use Rattle.std.specs.Prelude.{◌≡◌, ◌<◌, Some, None, MatchResult};
+ghost use Rattle.plan.specs.Plan.{keeping, counting, inside};
 ghost use Rattle.plan.specs.Plans.{idle_in, begun, ended, one_region, one_member, some_words, one_more};
 
 use definition::codes::Refusal;
 use definition::{RegionId, StateId, TransitionId};
 use plan::{
-    CounterPlan, MemberPlan, MembersPlan, OpenPlan, OpenRegionPlan, Plan, RegionPlan, Seen,
+    Closing, CounterPlan, MemberPlan, MembersPlan, OpenPlan, OpenRegion, OpenRegionPlan, Plan,
+    RegionPlan, Seen,
 };
 
 /// The answer: what the event does, or the question that is answered no.
@@ -25,28 +26,29 @@ pub fn needs(number: u32) -> Result<(), Refusal>
     Ok(())
 }
 
-/// One member of a list of an owner.
-pub fn member(list: u32, owner: u32, value: u32) -> MemberPlan
-    ensures { result ≡ member list owner value }
+/// The region that the element closes; where none is current it is an internal error.
+pub fn closed(v: Seen) -> Result<Closing, Refusal>
+    ensures { MatchResult result (λ x. v.closed ≡ Some x) (λ refusal. (v.closed ≡ None) × (refusal ≡ Refusal.OutOfOrder)) }
 {
-    MemberPlan { list, owner, value }
+    v.closed.ok_or(Refusal::OutOfOrder)
 }
 
-pub fn one_member(list: u32, owner: u32, value: u32) -> MembersPlan
-    ensures { result ≡ one_member list owner value }
+/// One member, and nothing else. `one_region` has the same shape over another type; a generic function would need a trait for one field and is no plainer.
+pub fn one_member(member: MemberPlan) -> MembersPlan
+    ensures { result ≡ one_member member.list member.owner member.value }
 {
     MembersPlan {
-        one: member(list, owner, value),
+        one: Some(member),
         ..MembersPlan::default()
     }
 }
 
 /// So many words of a list. It sets another field than `one_member`, which is all that they differ in.
-pub fn some_words(list: u32, owner: u32, count: u32) -> MembersPlan
-    ensures { result ≡ some_words list owner count }
+pub fn some_words(words: MemberPlan) -> MembersPlan
+    ensures { result ≡ some_words words.list words.owner words.value }
 {
     MembersPlan {
-        words: member(list, owner, count),
+        words: Some(words),
         ..MembersPlan::default()
     }
 }
@@ -55,7 +57,7 @@ pub fn one_region(region: RegionId) -> RegionPlan
     ensures { result ≡ one_region region.0 }
 {
     RegionPlan {
-        one: region,
+        one: Some(region),
         ..RegionPlan::default()
     }
 }
@@ -71,13 +73,12 @@ pub fn keeping(kept: u32) -> OpenRegionPlan
 }
 
 /// So many stay, and a region is left open by an element.
-pub fn one_more(kept: u32, region: RegionId, tag: u32) -> OpenRegionPlan
-    ensures { result ≡ one_more kept region.0 tag }
+pub fn one_more(kept: u32, left: OpenRegion) -> OpenRegionPlan
+    ensures { result ≡ one_more kept left.region.0 left.tag }
 {
     OpenRegionPlan {
         kept,
-        region,
-        tag,
+        one: Some(left),
         ..OpenRegionPlan::default()
     }
 }
@@ -125,12 +126,12 @@ pub fn rest(v: Seen) -> Plan
 
 /// An end that closes the element's region.
 #[tactic(auto, unfolding(plan::specs::Plans::ended, plan::specs::Plans::idle_in))]
-pub fn ended(v: Seen) -> Plan
-    ensures { result ≡ ended v }
+pub fn ended(x: Closing, v: Seen) -> Plan
+    ensures { result ≡ ended x v }
 {
     Plan {
-        pending: keeping(v.closed.kept),
-        counters: counting(v.closed.current, v.ids, v.docs),
+        pending: keeping(x.kept),
+        counters: counting(x.current, v.ids, v.docs),
         ..rest(v)
     }
 }

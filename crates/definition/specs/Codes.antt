@@ -1,5 +1,5 @@
--- The numbers of kinds of event, elements, keys, entries, owners and lists, as rows and definitions have them; of refusals; and of a kind or a key that may be none.
-use Rattle.std.specs.Prelude.{ℕ, Option, Some, None}
+-- The numbers of kinds of event, elements, keys, entries, owners and lists, as rows and definitions have them; of refusals; of what may be refused; and of a kind or a key that may be none.
+use Rattle.std.specs.Prelude.{ℕ, Option, Some, None, Result, Ok, Err}
 use Rattle.definition.specs.declared.codes.Kind.{Kind}
 use Rattle.definition.specs.declared.codes.Kind.TheVariants as K
 use Rattle.definition.specs.declared.codes.Tag.{Tag}
@@ -124,6 +124,11 @@ refusal_number R.InitialSet = 13
 refusal_number R.NoIf = 14
 refusal_number R.Full = 15
 refusal_number R.NoRow = 16
+
+-- The number of what may be refused: 0 where nothing is.
+abbrev pub outcome : {A : Type 0} → Result A Refusal → ℕ
+outcome (Ok x) = 0
+outcome (Err r) = refusal_number r
 
 -- Where a word names no kind the number is 4, and 0 is no key's.
 abbrev pub kind_code : Option Kind → ℕ

@@ -1,14 +1,13 @@
 #![tactic(auto)]
 
-ghost use Rattle.std.specs.Prelude.{◌≡◌, ◌-◌, ◌<◌};
+ghost use Rattle.std.specs.Prelude.{◌≡◌};
 ghost use Rattle.definition.specs.Limits.{limits01};
-ghost use Rattle.definition.specs.Look.{one_if};
 ghost use Rattle.definition.specs.Position.{one_more, pushed_at, popped_at, id_drawn, doc_drawn, name_drawn};
 
 pub mod cells;
 pub mod codes;
 
-/// The chart type: its associated constants are document 01's limits.
+/// The chart type: its associated constants are the limits of document 01, numbers that the C header has too, and no kinds.
 #[derive(Clone, Copy)]
 pub struct Chart {}
 
@@ -90,14 +89,6 @@ impl Chart {
             charge: Chart::CHARGE,
         }
     }
-}
-
-/// A yes as a number.
-#[tactic(auto, unfolding(crate::specs::Look::one_if))]
-pub fn one_if(b: bool) -> u32
-    ensures { (result ≡ one_if b) × (result < 2) }
-{
-    u32::from(b)
 }
 
 /// Numbers of rows are three types: one given for another does not compile. To C each is its number.

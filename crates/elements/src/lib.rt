@@ -48,7 +48,7 @@ fn known(m: u32) -> Option<(&'static [u8], Tag)>
     }
 }
 
-// The element of a name, if it is one.
+// The element of a name, if it is one. `keys: key_of` has the same shape over another table and mark; a generic function would take both, and is no plainer.
 fn found(name: &[u8]) -> Option<Tag>
     ensures { tag_number (unwrap_or result Unknown) ≡ tag_of name.now }
 {

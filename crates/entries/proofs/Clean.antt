@@ -1,11 +1,13 @@
 -- THE LAWS OF TABLES: on the rows in use the code's table is the plan's, with the texts of the look; what lies beyond stays.
 use Prim.Native.Nat.{ℕ, zero, suc, ◌+◌, ◌≤◌}
 use mathlib.Core.Path.{◌≡◌, refl, sym, ap, ◌∙◌}
-use mathlib.Core.Bool.{false}
+use mathlib.Core.Bool.{Bool, true, false}
 use mathlib.Core.List.{List, [], ◌∷◌}
 use native.Mathlib.Omega.{arith}
-use lib.ListN.{length, set, take, length-append}
+use lib.ListN.{length, set, take}
 use lib.Seq.{length-take-le}
+use Rattle.std.specs.Prelude.{Option, Some, None, IfSome}
+use Rattle.std.proofs.lemmas.Option.{IfSome_then}
 use Rattle.definition.specs.Rows.{Row, Table}
 use Rattle.definition.specs.Look.{Look}
 use Rattle.definition.specs.Change.{alter_row}
@@ -13,30 +15,34 @@ use Rattle.definition.specs.Reader.{over}
 use Rattle.definition.proofs.Changes.{alter_set}
 use Rattle.plan.specs.declared.ChartPlan.{ChartPlan}
 use Rattle.plan.specs.declared.StatePlan.{StatePlan}
+use Rattle.plan.specs.declared.Shape.{Shape}
+use Rattle.plan.specs.declared.Shape.TheVariants as S
 use Rattle.plan.specs.declared.TransitionPlan.{TransitionPlan}
 use Rattle.plan.specs.declared.EntryPlan.{EntryPlan}
 use Rattle.plan.specs.declared.InvokePlan.{InvokePlan}
 use Rattle.plan.specs.declared.DatumPlan.{DatumPlan}
 use Rattle.plan.specs.declared.ParameterPlan.{ParameterPlan}
-use Rattle.plan.specs.After.{put, shaped, shaped_if, added_if, rooted, chart_after, state_columns_after, states_after, transition_row, transitions_after, entry_row, recorded, entries_after, invoke_row, invokes_after, datums_after, parameters_after}
-use Rattle.plan.specs.Decided.{one_unless}
+use Rattle.plan.specs.Ids.{shape_number}
+use Rattle.plan.specs.After.{put, shaped, shaped_if, added_if, altered_if, rooted, chart_columns_after, chart_after, state_columns_after, state_after, states_after, transition_row, transitions_after, entry_row, recorded, entry_after, entries_after, invoke_row, invoke_after, invokes_after, datum_row, datum_after, datums_after, parameter_row, parameters_after}
+use Rattle.plan.specs.Decided.{one_there}
 use Rattle.plan.proofs.Over.{over_start, over_alter}
-use Rattle.fill.specs.Fill.{texts_of, shaped_by, is_words}
+use Rattle.plan.proofs.Fifteen.{added_length}
+use Rattle.fill.specs.Fill.{texts_of, is_words}
 use Rattle.fill.proofs.ShapeLaw.{Placed, shapes_law}
-use Rattle.tables.specs.Whole.{set_unless}
+use Rattle.tables.specs.Whole.{added_in}
 use Rattle.tables.proofs.Clean.{added_over}
-use Rattle.entries.specs.Whole.{shaped_if_by, recorded_by, rooted_by, chart_row, state_row_by, new_transition, old_transition, new_entry, old_entry, new_invoke, old_invoke, new_datum, old_datum, new_parameter, transitions_in, entries_in, invokes_in, datums_in, parameters_in, states_in, chart_in}
+use Rattle.entries.specs.Whole.{texts_by, shaped_if_by, recorded_by, rooted_by, chart_row, state_row_by, new_transition, new_entry, old_entry, new_invoke, old_invoke, new_datum, old_datum, new_parameter, transitions_in, entries_in, invokes_in, datums_in, parameters_in, states_in, chart_in}
 
 -- ---- tables
 
-pub added_count : (k n : ℕ) (u : Table) (r : Row) → length u ≡ n → length (added_if k r u) ≡ n + one_unless k
-unfolding added_if one_unless
-added_count zero n u r e = omega arith
-added_count (suc k) n u r e = omega (arith, length-append u (r ∷ []))
+same_added : {A : Type 0} (f h : A → Row) (p : Option A) (n : ℕ) (t : Table) → IfSome p (λ x. f x ≡ h x) → added_in f p n t ≡ added_in h p n t
+unfolding added_in
+same_added f h None n t e = refl
+same_added f h (Some x) n t e = ap (set t n) e
 
-pub added_clean : (k n : ℕ) (r : Row) (t : Table) → n + one_unless k ≤ length t → set_unless k t n r ≡ over (added_if k r (take n t)) t
-added_clean k n r t h =
-    ap (λ (z : Table). set_unless k z n r) (sym (over_start n t (omega arith))) ∙ added_over k n (take n t) t r (length-take-le n t (omega arith)) h
+-- A row added.
+pub added_clean : {A : Type 0} (f h : A → Row) (p : Option A) (n : ℕ) (t : Table) → IfSome p (λ x. f x ≡ h x) → n + one_there p ≤ length t → added_in f p n t ≡ over (added_if h p (take n t)) t
+added_clean f h p n t e b = same_added f h p n t e ∙ ap (added_in h p n) (sym (over_start n t (omega arith))) ∙ added_over h p n (take n t) t (length-take-le n t (omega arith)) b
 
 alter_same : (a : ℕ) (f h : Row → Row) (u : Table) → ((x : Row) → f x ≡ h x) → alter_row a f u ≡ alter_row a h u
 unfolding alter_row
@@ -50,21 +56,33 @@ unfolding alter_row
 altered_over zero f u t h = refl
 altered_over (suc a) f u t h = alter_set a f (over u t) ∙ over_alter a f u t (omega arith)
 
--- A row added, then a row altered.
-pub both_clean : (k n a : ℕ) (r q : Row) (f h : Row → Row) (t : Table) → r ≡ q → ((x : Row) → f x ≡ h x) → n + one_unless k ≤ length t → a ≤ n + one_unless k
-    → alter_row a f (set_unless k t n r) ≡ over (alter_row a h (added_if k q (take n t))) t
-both_clean k n a r q f h t e s b c =
-    let z : length (take n t) ≡ n = length-take-le n t (omega arith) in
-    let w : a ≤ length (added_if k q (take n t)) = omega (arith, added_count k n (take n t) q z) in
-    ap (λ (x : Row). alter_row a f (set_unless k t n x)) e ∙ ap (alter_row a f) (added_clean k n q t b) ∙ altered_over a f (added_if k q (take n t)) t w
-    ∙ ap (λ (x : Table). over x t) (alter_same a f h (added_if k q (take n t)) s)
+-- A row altered, of m rows in use.
+pub altered_clean : {A : Type 0} (at : A → ℕ) (f h : A → Row → Row) (p : Option A) (m : ℕ) (u t : Table) → IfSome p (λ x. (r : Row) → f x r ≡ h x r) → length u ≡ m → IfSome p (λ x. at x ≤ m)
+    → altered_if at f p (over u t) ≡ over (altered_if at h p u) t
+unfolding altered_if
+altered_clean at f h None m u t s e b = refl
+altered_clean at f h (Some x) m u t s e b = altered_over (at x) (f x) u t (omega (arith, b, e)) ∙ ap (λ (z : Table). over z t) (alter_same (at x) (f x) (h x) u s)
 
-pub one_clean : (n a : ℕ) (f h : Row → Row) (t : Table) → ((x : Row) → f x ≡ h x) → n ≤ length t → a ≤ n → alter_row a f t ≡ over (alter_row a h (take n t)) t
-one_clean n a f h t s b c =
-    let w : a ≤ length (take n t) = omega (arith, length-take-le n t b) in
-    ap (alter_row a f) (sym (over_start n t b)) ∙ altered_over a f (take n t) t w ∙ ap (λ (x : Table). over x t) (alter_same a f h (take n t) s)
+-- A row added, then a row altered.
+pub both_clean : {A B : Type 0} (f h : A → Row) (at : B → ℕ) (g k : B → Row → Row) (p : Option A) (q : Option B) (n : ℕ) (t : Table) → IfSome p (λ x. f x ≡ h x) → IfSome q (λ x. (r : Row) → g x r ≡ k x r)
+    → n + one_there p ≤ length t → IfSome q (λ x. at x ≤ n + one_there p) → altered_if at g q (added_in f p n t) ≡ over (altered_if at k q (added_if h p (take n t))) t
+both_clean f h at g k p q n t e s b c =
+    ap (altered_if at g q) (added_clean f h p n t e b)
+    ∙ altered_clean at g k q (n + one_there p) (added_if h p (take n t)) t s (added_length h p (take n t) ∙ ap (λ (z : ℕ). z + one_there p) (length-take-le n t (omega arith))) c
+
+pub one_clean : {A : Type 0} (at : A → ℕ) (f h : A → Row → Row) (p : Option A) (n : ℕ) (t : Table) → IfSome p (λ x. (r : Row) → f x r ≡ h x r) → n ≤ length t → IfSome p (λ x. at x ≤ n)
+    → altered_if at f p t ≡ over (altered_if at h p (take n t)) t
+one_clean at f h p n t s b c = ap (altered_if at f p) (sym (over_start n t b)) ∙ altered_clean at f h p n (take n t) t s (length-take-le n t b) c
 
 -- ---- rows, with the texts of a look
+
+pub all : {A : Type 0} {P : A → Type 0} (p : Option A) → ((x : A) → P x) → IfSome p P
+all None f = tt
+all (Some x) f = f x
+
+-- A shape is one of texts, and not of words.
+abbrev pub Wordless : ℕ → Shape → Type 0
+Wordless g h = is_words g (shape_number h) ≡ false
 
 module _ (l : Look) (placed : Placed l.fields) where
   abbrev t : List ℕ
@@ -73,59 +91,64 @@ module _ (l : Look) (placed : Placed l.fields) where
   abbrev g : ℕ
   g = l.tag
 
-  shape_same : (h : ℕ) (r : Row) → is_words g h ≡ false → shaped_by t g h r ≡ shaped l h r
-  unfolding shaped
-  shape_same h r w = shapes_law l 0 r placed g h w
+  shape_same : (h : Shape) (r : Row) → Wordless g h → texts_by t g h r ≡ shaped l h r
+  unfolding texts_by shaped
+  shape_same h r w = shapes_law l 0 r placed g (shape_number h) w
 
-  first_shape : is_words g 0 ≡ false
+  first_shape : Wordless g S.First
   unfolding is_words
   first_shape = refl
 
-  shape_if_same : (h : ℕ) (r : Row) → ((k : ℕ) → h ≡ suc k → is_words g k ≡ false) → shaped_if_by t g h r ≡ shaped_if l h r
+  shape_if_same : (h : Option Shape) (r : Row) → IfSome h (Wordless g) → shaped_if_by t g h r ≡ shaped_if l h r
   unfolding shaped_if_by shaped_if
-  shape_if_same zero r w = refl
-  shape_if_same (suc h) r w = shape_same h r (w h refl)
+  shape_if_same None r w = refl
+  shape_if_same (Some h) r w = shape_same h r w
 
-  record_same : (k c i : ℕ) (r : Row) → ((i ≡ 0 → ⊥) → is_words g k ≡ false) → recorded_by t g k c i r ≡ recorded l k c i r
+  record_same : (h : Shape) (c : ℕ) (b : Bool) (r : Row) → (b ≡ true → Wordless g h) → recorded_by t g h c b r ≡ recorded l h c b r
   unfolding recorded_by recorded
-  record_same k c zero r w = refl
-  record_same k c (suc i) r w = ap (λ (x : Row). set x c 1) (shape_same k r (w (λ z. omega arith)))
+  record_same h c false r w = refl
+  record_same h c true r w = ap (λ (x : Row). set x c 1) (shape_same h r (w refl))
 
-  root_same : (s : ℕ) (r : Row) → rooted_by t g s r ≡ rooted l s r
+  root_same : (s : Option ℕ) (r : Row) → rooted_by t g s r ≡ rooted l s r
   unfolding rooted_by rooted
-  root_same zero r = refl
-  root_same (suc s) r = ap (λ (x : Row). set x 0 s) (shape_same 0 r first_shape)
+  root_same None r = refl
+  root_same (Some s) r = ap (λ (x : Row). set x 0 s) (shape_same S.First r first_shape)
 
   -- ---- each table
 
-  pub chart_clean : (p : ChartPlan) (rs : Table) → 1 ≤ length rs → p.at ≤ 1 → chart_in t g p rs ≡ over (chart_after l p (take 1 rs)) rs
-  unfolding chart_in chart_after chart_row
-  chart_clean p rs b c = one_clean 1 p.at _ _ rs (λ x. ap (put 1 p.script) (root_same p.root (put 2 p.binding x))) b c
+  pub chart_clean : (p : Option ChartPlan) (rs : Table) → 1 ≤ length rs → chart_in t g p rs ≡ over (chart_after l p (take 1 rs)) rs
+  unfolding chart_in chart_after chart_row chart_columns_after
+  chart_clean p rs b =
+      let one : 1 ≤ 1 = omega arith in
+      one_clean (λ x. 1) _ _ p 1 rs (all p (λ x r. ap (put 1 x.script) (root_same x.root (put 2 x.binding r)))) b (all p (λ x. one))
 
-  pub states_clean : (p : StatePlan) (n : ℕ) (rs : Table) → ((k : ℕ) → p.texts ≡ suc k → is_words g k ≡ false) → n ≤ length rs → p.at.0 ≤ n → states_in t g p rs ≡ over (states_after l p (take n rs)) rs
-  unfolding states_in states_after state_row_by
-  states_clean p n rs w b c = one_clean n p.at.0 _ _ rs (λ x. ap (state_columns_after p) (shape_if_same p.texts x w)) b c
+  pub states_clean : (p : Option StatePlan) (n : ℕ) (rs : Table) → IfSome p (λ x. IfSome x.texts (Wordless g)) → n ≤ length rs → IfSome p (λ x. x.at.0 ≤ n) → states_in t g p rs ≡ over (states_after l p (take n rs)) rs
+  unfolding states_in states_after state_row_by state_after
+  states_clean p n rs w b c = one_clean (λ x. x.at.0) _ _ p n rs (IfSome_then p w (λ x w r. ap (state_columns_after x) (shape_if_same x.texts r w))) b c
 
-  pub transitions_clean : (p : TransitionPlan) (n : ℕ) (rs : Table) → ((k : ℕ) → p.texts ≡ suc k → is_words g k ≡ false) → n + one_unless p.number.0 ≤ length rs → p.at ≤ n + one_unless p.number.0
+  pub transitions_clean : (p : TransitionPlan) (n : ℕ) (rs : Table) → IfSome p.added (λ x. IfSome x.texts (Wordless g)) → n + one_there p.added ≤ length rs → IfSome p.altered (λ x. x.at ≤ n + one_there p.added)
       → transitions_in t g p n rs ≡ over (transitions_after l p (take n rs)) rs
-  unfolding transitions_in transitions_after new_transition old_transition transition_row
-  transitions_clean p n rs w b c = both_clean p.number.0 n p.at _ _ _ _ rs (shape_if_same p.texts _ w) (λ x. refl) b c
+  unfolding transitions_in transitions_after new_transition transition_row
+  transitions_clean p n rs w b c = both_clean _ _ (λ x. x.at) _ _ p.added p.altered n rs (IfSome_then p.added w (λ x w. shape_if_same x.texts _ w)) (all p.altered (λ x r. refl)) b c
 
-  pub entries_clean : (p : EntryPlan) (n : ℕ) (rs : Table) → is_words g p.shape ≡ false → n + one_unless p.kind ≤ length rs → p.at ≤ n + one_unless p.kind
+  pub entries_clean : (p : EntryPlan) (n : ℕ) (rs : Table) → IfSome p.added (λ x. Wordless g x.shape) → n + one_there p.added ≤ length rs → IfSome p.altered (λ x. x.at ≤ n + one_there p.added)
       → entries_in t g p n rs ≡ over (entries_after l p (take n rs)) rs
-  unfolding entries_in entries_after new_entry old_entry entry_row
-  entries_clean p n rs w b c = both_clean p.kind n p.at _ _ _ _ rs (shape_same p.shape _ w) (λ x. record_same 0 5 p.filled (put 4 p.other x) (λ z. first_shape)) b c
+  unfolding entries_in entries_after new_entry old_entry entry_row entry_after
+  entries_clean p n rs w b c =
+      both_clean _ _ (λ x. x.at) _ _ p.added p.altered n rs (IfSome_then p.added w (λ x w. shape_same x.shape _ w)) (all p.altered (λ x r. record_same S.First 5 x.filled (put 4 x.other r) (λ z. first_shape))) b c
 
-  pub invokes_clean : (p : InvokePlan) (n : ℕ) (rs : Table) → ((p.filled ≡ 0 → ⊥) → is_words g 1 ≡ false) → n + one_unless p.added ≤ length rs → p.at ≤ n + one_unless p.added
+  pub invokes_clean : (p : InvokePlan) (n : ℕ) (rs : Table) → IfSome p.altered (λ x. x.filled ≡ true → Wordless g S.Second) → n + one_there p.added ≤ length rs → IfSome p.altered (λ x. x.at ≤ n + one_there p.added)
       → invokes_in t g p n rs ≡ over (invokes_after l p (take n rs)) rs
-  unfolding invokes_in invokes_after new_invoke old_invoke invoke_row
-  invokes_clean p n rs w b c = both_clean p.added n p.at _ _ _ _ rs (shape_same 0 _ first_shape) (λ x. record_same 1 3 p.filled (put 2 p.finalize x) w) b c
+  unfolding invokes_in invokes_after new_invoke old_invoke invoke_row invoke_after
+  invokes_clean p n rs w b c =
+      both_clean _ _ (λ x. x.at) _ _ p.added p.altered n rs (all p.added (λ x. shape_same S.First _ first_shape)) (IfSome_then p.altered w (λ x w r. record_same S.Second 3 x.filled (put 2 x.finalize r) w)) b c
 
-  pub datums_clean : (p : DatumPlan) (n : ℕ) (rs : Table) → is_words g p.shape ≡ false → n + one_unless p.added ≤ length rs → p.at ≤ n + one_unless p.added
-      → datums_in t g p n rs ≡ over (datums_after l p (take n rs)) rs
-  unfolding datums_in datums_after new_datum old_datum
-  datums_clean p n rs w b c = both_clean p.added n p.at _ _ _ _ rs (shape_same p.shape _ w) (λ x. shape_same p.shape x w) b c
+  pub datums_clean : (p : DatumPlan) (n : ℕ) (rs : Table) → IfSome p.added (λ x. Wordless g x.shape) → IfSome p.altered (λ x. Wordless g x.shape) → n + one_there p.added ≤ length rs
+      → IfSome p.altered (λ x. x.at ≤ n + one_there p.added) → datums_in t g p n rs ≡ over (datums_after l p (take n rs)) rs
+  unfolding datums_in datums_after new_datum old_datum datum_row datum_after
+  datums_clean p n rs w v b c =
+      both_clean _ _ (λ x. x.at) _ _ p.added p.altered n rs (IfSome_then p.added w (λ x w. shape_same x.shape _ w)) (IfSome_then p.altered v (λ x w r. shape_same x.shape r w)) b c
 
-  pub parameters_clean : (p : ParameterPlan) (n : ℕ) (rs : Table) → n + one_unless p.kind ≤ length rs → parameters_in t g p n rs ≡ over (parameters_after l p (take n rs)) rs
-  unfolding parameters_in parameters_after new_parameter
-  parameters_clean p n rs b = ap (set_unless p.kind rs n) (shape_same 0 _ first_shape) ∙ added_clean p.kind n _ rs b
+  pub parameters_clean : (p : Option ParameterPlan) (n : ℕ) (rs : Table) → n + one_there p ≤ length rs → parameters_in t g p n rs ≡ over (parameters_after l p (take n rs)) rs
+  unfolding parameters_in parameters_after new_parameter parameter_row
+  parameters_clean p n rs b = added_clean _ _ p n rs (all p (λ x. shape_same S.First _ first_shape)) b

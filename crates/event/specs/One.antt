@@ -1,7 +1,5 @@
 -- Bytes that are one event.
-use Rattle.std.specs.Prelude.{ℕ, true, false, List, [], ◌∷◌, length, ltb, Result, Ok, Err}
-use Rattle.definition.specs.declared.codes.Refusal.{Refusal}
-use Rattle.definition.specs.Codes.{refusal_number}
+use Rattle.std.specs.Prelude.{ℕ, true, false, List, [], ◌∷◌, length, ltb}
 use Rattle.lines.specs.Lines.{event_length}
 
 -- 3 where there is no event, or a second one begins.
@@ -9,8 +7,3 @@ unfoldable pub one_event : List ℕ → ℕ
 unfolding event_length
 one_event [] = 3
 one_event (b ∷ bs) = elim (ltb (event_length (b ∷ bs)) (length (b ∷ bs))) [ true ↦ 3 | false ↦ 0 ]
-
--- The number of the question that is answered no; 0 where all are yes.
-abbrev pub outcome : Result (Unit {0}) Refusal → ℕ
-outcome (Ok u) = 0
-outcome (Err r) = refusal_number r

@@ -10,7 +10,8 @@ ghost use Rattle.parts.specs.Parts.{pair_of, pairs_of, next_of, walked_by};
 ghost use Rattle.walk.specs.Walk.{walked};
 ghost use Rattle.walk.specs.Stream.{settled};
 ghost use Rattle.event.specs.Described.{Coded, IsCoded, blank, described_by, told_by, shape_fits, read, pair_keys, is_among, all_differ, finished, described};
-ghost use Rattle.event.specs.One.{outcome, one_event};
+ghost use Rattle.definition.specs.Codes.{outcome};
+ghost use Rattle.event.specs.One.{one_event};
 
 use definition::codes::{Kind, Refusal, Tag};
 use lines::{next_event, part_of, same_text};
@@ -89,8 +90,7 @@ fn keys_differ(raw: &[u8], pairs: &[Pair]) -> bool
 }
 
 // What the lines have brought, if the event is in form and its keys are different.
-fn head_of(raw: &[u8], heading: Option<Heading>, pairs: &[Pair]) -> Result<Head, Refusal>
-    requires pairs_len { length pairs.now ≡ 16 }
+fn head_of(raw: &[u8], heading: Option<Heading>, pairs: &[Pair; 16]) -> Result<Head, Refusal>
     requires heading_value { walked_by heading pairs.now ≡ settled (walked raw.now) }
     ensures { MatchResult result (λ d. described_by d pairs.now ≡ finished raw.now (walked_by heading pairs.now)) (λ r. blank (refusal_number r) ≡ finished raw.now (walked_by heading pairs.now)) }
 {
@@ -124,8 +124,7 @@ pub struct Next {
 
 // The first event of a stream taken apart: it runs to the next line that begins `event=`, or to the end. A refused event has no attributes, whatever the walk
 // has left beside it.
-pub fn describe_next(stream: &[u8], pairs: &mut [Pair]) -> Next
-    requires { length pairs.old ≡ 16 }
+pub fn describe_next(stream: &[u8], pairs: &mut [Pair; 16]) -> Next
     ensures event { told_by result.event pairs.new ≡ described (take (event_length stream.now) stream.now) }
     ensures end { result.end ≡ event_length stream.now }
 {

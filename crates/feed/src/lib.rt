@@ -20,8 +20,7 @@ use plain::{Plain, plain_of, unescape_all};
 use rows::lent::Lent;
 
 // An event with an escape somewhere: its parts are unescaped first.
-fn feed_copy(lent: &mut Lent<'_>, p: Position, raw: &[u8], d: Head, pairs: &[Pair]) -> Answer
-    requires pairs_len { length pairs.now ≡ 16 }
+fn feed_copy(lent: &mut Lent<'_>, p: Position, raw: &[u8], d: Head, pairs: &[Pair; 16]) -> Answer
     requires pairs_value { described_by d pairs.now ≡ described raw.now }
     requires in_form { InForm (lent_of lent.old) p (parsed_raw raw.now (described_by d pairs.now)) }
     ensures answers { Answers (lent_of lent.old) p (parsed_raw raw.now (described_by d pairs.now)) (given result.number result.position (lent_of lent.new)) }
@@ -33,9 +32,8 @@ fn feed_copy(lent: &mut Lent<'_>, p: Position, raw: &[u8], d: Head, pairs: &[Pai
 }
 
 /// The questions 5 to 15 of an event that is taken apart; 1 to 4 are yes. Most events have no escape and are read where they stand.
-pub fn feed(lent: &mut Lent<'_>, p: Position, raw: &[u8], d: Head, pairs: &[Pair]) -> Answer
+pub fn feed(lent: &mut Lent<'_>, p: Position, raw: &[u8], d: Head, pairs: &[Pair; 16]) -> Answer
     requires p_value { first_two (lent_of lent.old) p ≡ 0 }
-    requires pairs_len { length pairs.now ≡ 16 }
     requires pairs_value { described_by d pairs.now ≡ described raw.now }
     ensures answer { given result.number result.position (lent_of lent.new) ≡ R.answer_to limits01 (lent_of lent.old) p (R.event raw.now) }
     ensures loans { SameLoans lent.old lent.new }

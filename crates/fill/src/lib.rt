@@ -3,11 +3,21 @@
 #![tactic(auto)]
 
 ghost use Rattle.std.specs.Prelude.{◌≡◌, ◌<◌, get_or, drop, map};
+ghost use Rattle.definition.specs.Codes.{tag_number};
 ghost use Rattle.definition.specs.Rows.{cell_at, with_cell};
+ghost use Rattle.plan.specs.Ids.{shape_number};
 ghost use Rattle.fill.specs.Fill.{fills, start_of, as_cell, cell_by, take_number, as_list, shape_from, fill_all, shaped_by};
 
 use definition::codes::Tag;
+use plan::Shape;
 use rows::put;
+
+/// What an element fills rows with: the event's texts, two numbers a key.
+#[derive(Clone, Copy)]
+pub struct Texts<'a> {
+    pub tag: Tag,
+    pub cells: &'a [u32],
+}
 
 /// A text in the arena: one more than its place, and its length; 0 and 0 where there is none.
 #[derive(Clone, Copy)]
@@ -125,33 +135,63 @@ const FOREACH: [Filling; 3] = [
 
 const SCRIPT: [Filling; 1] = [Filling(42, 62, Take::Always)];
 
-// The columns that an element fills, in one of its shapes.
+// The columns that an element fills, in its first shape. One match on element and shape was tried: the proof of its last arm does not close.
 #[tactic(auto, unfolding(crate::specs::Fill::shape_from, crate::specs::Fill::start_of, crate::specs::Fill::starts, crate::specs::Fill::fills))]
-fn fillings(tag: u32, shape: u32) -> &'static [Filling]
-    ensures { map as_list result.now ≡ shape_from (drop (start_of tag shape) fills) }
+fn first(tag: Tag) -> &'static [Filling]
+    ensures { map as_list result.now ≡ shape_from (drop (start_of (tag_number tag) 0) fills) }
 {
-    match (tag, shape) {
-        (Tag::SCXML, 0) => &SCXML,
-        (Tag::INVOKE, 0) => &INVOKE,
-        (Tag::DATA, 0) => &DATA,
-        (Tag::DATA, 1) => &DATA_TEXT,
-        (Tag::DONEDATA, 0) => &DONEDATA,
-        (Tag::ELSEIF, 0) => &ELSEIF,
-        (Tag::PARAM, 0) => &PARAM,
-        (Tag::CONTENT, 0) => &CONTENT_IN_ENTRY,
-        (Tag::CONTENT, 1) => &CONTENT_IN_INVOKE,
-        (Tag::CONTENT, 2) => &CONTENT_IN_STATE,
-        (Tag::TRANSITION, 0) => &TRANSITION,
-        (Tag::SEND, 0) => &SEND,
-        (Tag::RAISE, 0) => &RAISE,
-        (Tag::CANCEL, 0) => &CANCEL,
-        (Tag::LOG, 0) => &LOG,
-        (Tag::ASSIGN, 0) => &ASSIGN,
-        (Tag::ASSIGN, 1) => &ASSIGN_TEXT,
-        (Tag::IF, 0) => &IF,
-        (Tag::FOREACH, 0) => &FOREACH,
-        (Tag::SCRIPT, 0) => &SCRIPT,
+    match tag {
+        Tag::Scxml => &SCXML,
+        Tag::Invoke => &INVOKE,
+        Tag::Data => &DATA,
+        Tag::Donedata => &DONEDATA,
+        Tag::Elseif => &ELSEIF,
+        Tag::Param => &PARAM,
+        Tag::Content => &CONTENT_IN_ENTRY,
+        Tag::Transition => &TRANSITION,
+        Tag::Send => &SEND,
+        Tag::Raise => &RAISE,
+        Tag::Cancel => &CANCEL,
+        Tag::Log => &LOG,
+        Tag::Assign => &ASSIGN,
+        Tag::If => &IF,
+        Tag::Foreach => &FOREACH,
+        Tag::Script => &SCRIPT,
         _ => &[],
+    }
+}
+
+// In its second.
+#[tactic(auto, unfolding(crate::specs::Fill::shape_from, crate::specs::Fill::start_of, crate::specs::Fill::starts, crate::specs::Fill::fills))]
+fn second(tag: Tag) -> &'static [Filling]
+    ensures { map as_list result.now ≡ shape_from (drop (start_of (tag_number tag) 1) fills) }
+{
+    match tag {
+        Tag::Data => &DATA_TEXT,
+        Tag::Content => &CONTENT_IN_INVOKE,
+        Tag::Assign => &ASSIGN_TEXT,
+        _ => &[],
+    }
+}
+
+// In its third.
+#[tactic(auto, unfolding(crate::specs::Fill::shape_from, crate::specs::Fill::start_of, crate::specs::Fill::starts, crate::specs::Fill::fills))]
+fn third(tag: Tag) -> &'static [Filling]
+    ensures { map as_list result.now ≡ shape_from (drop (start_of (tag_number tag) 2) fills) }
+{
+    match tag {
+        Tag::Content => &CONTENT_IN_STATE,
+        _ => &[],
+    }
+}
+
+fn fillings(tag: Tag, shape: Shape) -> &'static [Filling]
+    ensures { map as_list result.now ≡ shape_from (drop (start_of (tag_number tag) (shape_number shape)) fills) }
+{
+    match shape {
+        Shape::First => first(tag),
+        Shape::Second => second(tag),
+        Shape::Third => third(tag),
     }
 }
 
@@ -205,9 +245,12 @@ fn fill_all(row: &mut [u32], shape: &[Filling], t: &[u32])
     }
 }
 
-/// The row with the texts of a shape.
-pub fn fill(row: &mut [u32], tag: u32, shape: u32, t: &[u32])
-    ensures { row.new ≡ shaped_by t.now tag shape row.old }
-{
-    fill_all(row, fillings(tag, shape), t);
+impl Texts<'_> {
+    /// The row with the texts of a shape.
+    #[tactic(auto, unfolding(crate::specs::Fill::shaped_by), using(crate::proofs::Laws::from_shape))]
+    pub fn fill(self, row: &mut [u32], shape: Shape)
+        ensures { row.new ≡ shaped_by self.entry.cells.now (tag_number self.entry.tag) (shape_number shape) row.old }
+    {
+        fill_all(row, fillings(self.tag, shape), self.cells);
+    }
 }

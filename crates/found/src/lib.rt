@@ -4,14 +4,13 @@
 
 ghost use Rattle.std.specs.Prelude.{◌≡◌, position};
 ghost use Rattle.definition.specs.Look.{find_datum, is_innermost};
-ghost use Rattle.plain.specs.Plain.{slots_of, parsed_in};
-ghost use Rattle.plain.specs.Keyed.{keyed_of};
+ghost use Rattle.plain.specs.Plain.{parsed_in};
 ghost use Rattle.found.specs.Found.{is_datum, found_in};
 
 use definition::cells::{DatumColumn, OpenColumn};
 use definition::codes::{Key, Tag};
 use names::is_at;
-use plain::{Keyed, Plain, value};
+use plain::indexed::Indexed;
 use text::same_at;
 
 #[tactic(auto, using(crate::proofs::FoundLaws::datum_here, crate::proofs::FoundLaws::datum_not))]
@@ -41,17 +40,16 @@ fn find_datum(datums: &[[u32; 8]], text: &[u8], state: u32, w: &[u8]) -> usize
 }
 
 // Of data; 0 of other elements.
-pub fn found(datums: &[[u32; 8]], text: &[u8], state: u32, src: &[u8], p: Plain, ix: Keyed) -> usize
-    requires { ix ≡ keyed_of (slots_of p) }
-    ensures { result ≡ found_in text.now datums.now state (parsed_in src.now p) }
+pub fn found(datums: &[[u32; 8]], text: &[u8], state: u32, event: &Indexed<'_>) -> usize
+    ensures { result ≡ found_in text.now datums.now state (parsed_in event.now.src.now event.now.plain) }
 {
-    if p.tag != Tag::DATA {
+    if event.plain.tag != Tag::Data {
         return 0;
     }
-    find_datum(datums, text, state, value(src, ix, Key::ID))
+    find_datum(datums, text, state, event.value(Key::Id))
 }
 
-// Whether the innermost open element has this name: a known one by its tag.
+// Whether the innermost open element has this name: a known one by its tag, which is a number as the row has it (C lends rows of numbers).
 pub fn is_innermost(opened: &[[u32; 8]], names: &[[u8; 64]], tag: u32, name: &[u8]) -> bool
     ensures { result ≡ is_innermost opened.now names.now tag name.now }
 {
@@ -64,7 +62,7 @@ pub fn is_innermost(opened: &[[u32; 8]], names: &[[u8; 64]], tag: u32, name: &[u
     if row[OpenColumn::TAG] != tag {
         return false;
     }
-    if tag != Tag::UNKNOWN {
+    if tag != Tag::Unknown as u32 {
         return true;
     }
     same_at(kept, 0, row[OpenColumn::LENGTH] as usize, name)

@@ -151,8 +151,7 @@ module _ (s : Store) (e : Event) where
   heard_law own found eo ef =
       λ i.
       record {
-        kind = e.kind;
-        tag = tagged;
+        whole = eqb e.kind 2;
         own = state_id (eo i);
         initial = sym (has_law 2 (other refl refl refl)) i;
         expr = sym (has_law 19 (other refl refl refl)) i;

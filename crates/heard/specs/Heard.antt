@@ -1,7 +1,7 @@
 -- What a plan needs of an event, by its values.
-use Rattle.std.specs.Prelude.{ℕ, Bool, true, false, List, [], length}
-use Rattle.std.proofs.Math.Option.{none}
+use Rattle.std.specs.Prelude.{ℕ, Bool, true, false, List, length, eqb}
 use Rattle.definition.specs.Elements.{key}
+use Rattle.definition.specs.Event.{kind}
 use Rattle.definition.specs.Look.{Load, has_load, code_of, word_spans}
 use Rattle.definition.specs.Actions.{type_of}
 use Rattle.plain.specs.Plain.{Parsed}
@@ -26,8 +26,7 @@ unfoldable pub heard_in : ℕ → ℕ → Parsed → Heard
 unfolding code_in words_in type_of
 heard_in own found v =
     record {
-      kind = v.kind;
-      tag = v.tag;
+      whole = eqb v.kind kind.whole;
       own = state_id own;
       initial = has_load key.initial v.values;
       expr = has_load key.expr v.values;
@@ -41,7 +40,3 @@ heard_in own found v =
       names = words_in v.tag key.namelist v.values;
       found = found;
     }
-
--- An event without values; its name and text are not heard.
-unfoldable pub bare_of : ℕ → ℕ → Parsed
-bare_of k g = record { kind = k; tag = g; name = []; values = []; text = none }

@@ -1,69 +1,70 @@
-// What an event says, as numbers: all that a plan needs of it.
+// What an event says: all that a plan needs of it.
 
 #![tactic(auto)]
 
-ghost use Rattle.std.specs.Prelude.{◌≡◌, ◌≤◌, length};
-ghost use Rattle.definition.specs.Text.{event_words, state_words};
+ghost use Rattle.std.specs.Prelude.{◌≡◌, ℕ, eqb, unwrap_or};
+ghost use Rattle.definition.specs.Codes.{kind_number};
+ghost use Rattle.definition.specs.Event.{kind};
 ghost use Rattle.definition.specs.Elements.{key};
-ghost use Rattle.definition.specs.Look.{code_of, word_spans};
+ghost use Rattle.definition.specs.Look.{code_of};
 ghost use Rattle.definition.specs.Actions.{type_of};
-ghost use Rattle.plain.specs.Plain.{slots_of, parsed_in};
-ghost use Rattle.plain.specs.Keyed.{keyed_of, keyed_bytes};
-ghost use Rattle.heard.specs.Heard.{or_else, heard_in, bare_of};
+ghost use Rattle.plain.specs.Plain.{parsed_in};
+ghost use Rattle.plain.specs.Keyed.{value_in};
+ghost use Rattle.heard.specs.Heard.{code_in, words_in, heard_in};
 
-use definition::codes::{Key, Tag};
-use definition::{StateId, one_if};
-use plain::{Keyed, Plain, has, value};
+use definition::StateId;
+use definition::codes::{Key, Kind, Tag};
+use plain::indexed::Indexed;
 use plan::Heard;
 use text::{binding_code, history_code, is_true, transition_code};
-use words::{is_wildcard, next_event_word, next_state_word};
+use words::each::{EventWords, StateWords};
+use words::is_wildcard;
 
-fn or_else(there: bool, x: u32, d: u32) -> u32
-    ensures { result ≡ or_else there x d }
+// The codes and counts of keys, as numbers, since rows hold them so (C lends rows of numbers): a value is cut out only for an element that has a code of it.
+fn binding_of(event: &Indexed<'_>) -> u32
+    ensures { let v = parsed_in event.now.src.now event.now.plain in result ≡ code_in 0 v.tag key.binding v.values }
 {
-    if there {
-        return x;
+    if !event.has(Key::Binding) {
+        return 0;
     }
-    d
+    if event.plain.tag != Tag::Scxml {
+        return 0;
+    }
+    binding_code(event.value(Key::Binding))
 }
 
-// The codes and counts of keys: a value is cut out only for an element that has a code of it.
-fn binding_of(src: &[u8], ix: Keyed, tag: u32) -> u32
-    ensures { result ≡ code_of tag key.binding (keyed_bytes src.now ix key.binding) }
+// None where no type is given.
+fn type_code(event: &Indexed<'_>) -> Option<u32>
+    ensures { let v = parsed_in event.now.src.now event.now.plain in (d : ℕ) → unwrap_or result d ≡ code_in d v.tag key.type v.values }
 {
-    if tag == Tag::SCXML {
-        return binding_code(value(src, ix, Key::BINDING));
+    if !event.has(Key::Type) {
+        return None;
     }
-    0
+    if event.plain.tag == Tag::History {
+        return Some(history_code(event.value(Key::Type)));
+    }
+    if event.plain.tag == Tag::Transition {
+        return Some(transition_code(event.value(Key::Type)));
+    }
+    Some(0)
 }
 
-fn type_code(src: &[u8], ix: Keyed, tag: u32) -> u32
-    ensures { result ≡ code_of tag key.type (keyed_bytes src.now ix key.type) }
+fn wildcard_of(event: &Indexed<'_>) -> u32
+    ensures { let v = parsed_in event.now.src.now event.now.plain in result ≡ code_of v.tag key.event (value_in key.event v.values) }
 {
-    if tag == Tag::HISTORY {
-        return history_code(value(src, ix, Key::TYPE));
+    if event.plain.tag != Tag::Transition {
+        return 0;
     }
-    if tag == Tag::TRANSITION {
-        return transition_code(value(src, ix, Key::TYPE));
-    }
-    0
+    u32::from(is_wildcard(event.value(Key::Event)))
 }
 
-fn wildcard_of(src: &[u8], ix: Keyed, tag: u32) -> u32
-    ensures { result ≡ code_of tag key.event (keyed_bytes src.now ix key.event) }
+fn forward_of(event: &Indexed<'_>) -> u32
+    ensures { let v = parsed_in event.now.src.now event.now.plain in result ≡ code_of v.tag key.autoforward (value_in key.autoforward v.values) }
 {
-    if tag == Tag::TRANSITION {
-        return one_if(is_wildcard(value(src, ix, Key::EVENT)));
-    }
-    0
+    u32::from(is_true(event.value(Key::Autoforward)))
 }
 
-fn forward_of(src: &[u8], ix: Keyed, tag: u32) -> u32
-    ensures { result ≡ code_of tag key.autoforward (keyed_bytes src.now ix key.autoforward) }
-{
-    one_if(is_true(value(src, ix, Key::AUTOFORWARD)))
-}
-
+// The number that a row has for a type: C lends rows of numbers.
 fn type_of(code: u32) -> u32
     ensures { result ≡ type_of code }
 {
@@ -73,123 +74,52 @@ fn type_of(code: u32) -> u32
     0
 }
 
-fn event_words(v: &[u8]) -> usize
-    ensures value { result ≡ length (event_words v.now) }
-    ensures upper_bound { result ≤ length v.now }
-{
-    let mut n = 0;
-    let mut at = 0;
-    while at < v.len() {
-        let w = next_event_word(v, at);
-        let start = w.start;
-        let end = w.end;
-        if start == end {
-            return n;
-        }
-        n += 1;
-        at = end;
-    }
-    n
-}
-
-fn state_words(v: &[u8]) -> usize
-    ensures value { result ≡ length (state_words v.now) }
-    ensures upper_bound { result ≤ length v.now }
-{
-    let mut n = 0;
-    let mut at = 0;
-    while at < v.len() {
-        let w = next_state_word(v, at);
-        let start = w.start;
-        let end = w.end;
-        if start == end {
-            return n;
-        }
-        n += 1;
-        at = end;
-    }
-    n
-}
-
 // How many event words a transition has.
-fn events_of(src: &[u8], ix: Keyed, tag: u32) -> u32
-    ensures { result ≡ length (word_spans tag key.event (keyed_bytes src.now ix key.event)) }
+fn events_of(event: &Indexed<'_>) -> u32
+    ensures { let v = parsed_in event.now.src.now event.now.plain in result ≡ words_in v.tag key.event v.values }
 {
-    if tag == Tag::TRANSITION {
-        let n = event_words(value(src, ix, Key::EVENT));
-        return n as u32;
+    if event.plain.tag != Tag::Transition {
+        return 0;
     }
-    0
+    let v = event.value(Key::Event);
+    EventWords { v, at: 0 }.count() as u32
 }
 
 // How many words the namelist of a send or an invoke has.
-fn names_of(src: &[u8], ix: Keyed, tag: u32) -> u32
-    ensures { result ≡ length (word_spans tag key.namelist (keyed_bytes src.now ix key.namelist)) }
+fn names_of(event: &Indexed<'_>) -> u32
+    ensures { let v = parsed_in event.now.src.now event.now.plain in result ≡ words_in v.tag key.namelist v.values }
 {
-    if (tag == Tag::SEND) | (tag == Tag::INVOKE) {
-        let n = state_words(value(src, ix, Key::NAMELIST));
-        return n as u32;
+    if (event.plain.tag == Tag::Send) | (event.plain.tag == Tag::Invoke) {
+        let v = event.value(Key::Namelist);
+        return StateWords { v, at: 0 }.count() as u32;
     }
     0
 }
 
-// Of an event without attributes, as every end is: no key is there.
-fn bare(kind: u32, tag: u32, own: StateId, found: u32) -> Heard
-    ensures { result ≡ heard_in own.0 found (bare_of kind tag) }
+// Of the kinds of event only `whole` has a text.
+fn has_text(of: Kind) -> bool
+    ensures { result ≡ eqb (kind_number of) kind.whole }
 {
-    Heard {
-        kind: kind,
-        tag: tag,
-        own: own,
-        initial: false,
-        expr: false,
-        binds: false,
-        binding: 0,
-        mode: 0,
-        history: 1,
-        wildcard: 0,
-        forward: 0,
-        events: 0,
-        names: 0,
-        found: found,
-    }
+    of == Kind::Whole
 }
 
-pub fn heard(src: &[u8], p: Plain, ix: Keyed, own: StateId, found: u32) -> Heard
-    requires { ix ≡ keyed_of (slots_of p) }
-    ensures { result ≡ heard_in own.0 found (parsed_in src.now p) }
+pub fn heard(event: &Indexed<'_>, own: StateId, found: u32) -> Heard
+    ensures { result ≡ heard_in own.0 found (parsed_in event.now.src.now event.now.plain) }
 {
-    let tag = p.tag;
-    if p.count == 0 {
-        return bare(p.kind, tag, own, found);
-    }
-    let initial = has(ix, Key::INITIAL);
-    let expr = has(ix, Key::EXPR);
-    let binds = has(ix, Key::BINDING);
-    let typed = has(ix, Key::TYPE);
-    let binding = binding_of(src, ix, tag);
-    let code = type_code(src, ix, tag);
-    let wildcard = wildcard_of(src, ix, tag);
-    let count = events_of(src, ix, tag);
-    let forward = forward_of(src, ix, tag);
-    let names = names_of(src, ix, tag);
-    let bound = or_else(binds, binding, 0);
-    let mode = type_of(or_else(typed, code, 0));
-    let history = or_else(typed, code, 1);
+    let typed = type_code(event);
     Heard {
-        kind: p.kind,
-        tag: tag,
-        own: own,
-        initial: initial,
-        expr: expr,
-        binds: binds,
-        binding: bound,
-        mode: mode,
-        history: history,
-        wildcard: wildcard,
-        forward: forward,
-        events: count,
-        names: names,
-        found: found,
+        whole: has_text(event.plain.kind),
+        own,
+        initial: event.has(Key::Initial),
+        expr: event.has(Key::Expr),
+        binds: event.has(Key::Binding),
+        binding: binding_of(event),
+        mode: type_of(typed.unwrap_or(0)),
+        history: typed.unwrap_or(1),
+        wildcard: wildcard_of(event),
+        forward: forward_of(event),
+        events: events_of(event),
+        names: names_of(event),
+        found,
     }
 }

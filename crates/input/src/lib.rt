@@ -3,7 +3,7 @@
 #![tactic(auto)]
 
 use definition::{Position, RegionId};
-use pieces::next_piece;
+use pieces::Window;
 use rows::lent::Lent;
 use std::io::Stdin;
 
@@ -14,6 +14,7 @@ pub enum Stop {
     Refused { number: u32, event: u64 },
 }
 
+// Written out, since `Position` derives no `Default`.
 fn start() -> Position {
     Position {
         opened: 0,
@@ -37,14 +38,14 @@ fn start() -> Position {
 
 /// The whole input, and the position after it. A loop that is proved has to end, and nothing says that the input does: it has more turns than any run uses up.
 pub fn read_all(source: Stdin, lent: &mut Lent<'_>, buffer: &mut [u8]) -> Result<Position, Stop> {
+    let mut window = Window::new(buffer);
     let mut position = start();
     let mut accepted: u64 = 0;
-    // The buffer holds so many bytes, and the first `done` of them are fed.
-    let mut held = 0;
-    let mut done = 0;
     for _ in 0..u64::MAX {
-        let piece = next_piece(source, buffer, done, held);
-        let fed = reader::chart_stream(lent, position, &buffer[..piece.end]);
+        let Ok(piece) = window.next_piece(source) else {
+            return Err(Stop::Failed);
+        };
+        let fed = reader::chart_stream(lent, position, &window.buffer[..piece.end]);
         if fed.number != 0 {
             return Err(Stop::Refused {
                 number: fed.number,
@@ -52,15 +53,11 @@ pub fn read_all(source: Stdin, lent: &mut Lent<'_>, buffer: &mut [u8]) -> Result
             });
         }
         position = fed.position;
-        if piece.failed {
-            return Err(Stop::Failed);
-        }
-        if piece.ended {
+        let Some(events) = piece.events else {
             return Ok(position);
-        }
-        accepted = accepted.saturating_add(piece.events);
-        held = piece.held;
-        done = piece.end;
+        };
+        accepted = accepted.saturating_add(events);
+        window.done = piece.end;
     }
     Err(Stop::Failed)
 }

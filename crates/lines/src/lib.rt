@@ -18,7 +18,7 @@ pub struct Tail {
     pub plain: bool,
 }
 
-// How many bytes are looked at together, on short lines and in texts.
+// Lengths, and no kinds: how many bytes are looked at together, on short lines and in texts.
 const BLOCK: usize = 8;
 
 const RUN: usize = 64;

@@ -1,5 +1,5 @@
 -- A chart's lines, row by row.
-use mathlib.Core.Path.{◌≡◌}
+use mathlib.Core.Path.{◌≡◌, ap, ◌∙◌}
 use mathlib.Core.List.{List, [], ◌++◌}
 use Prim.Native.Nat.{ℕ, suc, ◌+◌, ◌≤◌, ◌<◌}
 use native.Mathlib.Numerals.{add-one}
@@ -8,12 +8,15 @@ use lib.Seq.{drop-cons}
 use borrow.Author.Tests.{ne_eqb}
 use Rattle.definition.specs.Text.{str, decimal}
 use Rattle.definition.specs.Rows.{Table, num}
-use Rattle.printing.specs.Added.{Added}
+use Rattle.printing.specs.Put.{Put}
+use Rattle.printing.specs.declared.page.Page.{Page}
 use Rattle.printing.specs.Lines.{line}
 use Rattle.listing.specs.Listing.{state_lines, states_from, type_word, transition_lines, transitions_from, listing}
 
-pub printed : {a b w : List ℕ} {j : ℕ} → Added a 0 b j w → (j ≤ length b) × (take j b ≡ take (length b) w)
-printed x = (x.within, x.told)
+-- what stands in a buffer that was filled from its first byte
+pub printed : {x y : Page} {w b : List ℕ} → Put x y w → x.at ≡ 0 → b ≡ y.buffer.now → take y.at b ≡ take (length b) w
+printed {x} {y} {w} {b} p e f =
+    rw f (p.added.told ∙ ap (λ (n : ℕ). take (length y.buffer.now) (take n x.buffer.now ++ w)) e)
 
 module _ (t : ℕ) where
   pub type_internal : t ≡ 1 → str "type=internal\n" ≡ line (str "type=") (type_word t)

@@ -1,5 +1,5 @@
 -- Stage 1 by what is parsed of an event, and what it tells of the definition's look.
-use Rattle.std.specs.Prelude.{ℕ, ◌+◌, ◌≡◌, true, List, [], length, get_or}
+use Rattle.std.specs.Prelude.{ℕ, ◌+◌, ◌≡◌, Bool, true, List, [], length, get_or}
 use Rattle.definition.specs.declared.Position.{Position}
 use Rattle.definition.specs.Limits.{limits01}
 use Rattle.definition.specs.Event.{Event, in_form, keys_differ}
@@ -10,6 +10,7 @@ use Rattle.definition.proofs.Base.{All}
 use Rattle.names.specs.declared.Names.{Names}
 use Rattle.names.specs.Names.{Inside, names_in}
 use Rattle.plain.specs.Plain.{Parsed, parsed_of}
+use Rattle.definition.specs.Codes.{outcome}
 use Rattle.plan.specs.declared.Heard.{Heard}
 use Rattle.plan.specs.Heard.{heard}
 use Rattle.heard.specs.Heard.{heard_in}
@@ -18,8 +19,20 @@ use Rattle.found.specs.Found.{ids, found_in}
 use Rattle.payload.specs.Payload.{made_in, charge_in}
 use Rattle.look.specs.declared.Looked.{Looked}
 
+-- What is looked up, with the number of the first no of the questions 5 to 12, 0 where all are yes.
+pub record Told : Type 0 where
+  pub no : ℕ
+  pub heard : Heard
+  pub refs : ℕ
+  pub new : ℕ
+  pub made : Bool
+  pub charge : ℕ
+
+abbrev pub as_told : Looked → Told
+as_told l = record { no = outcome l.asked; heard = l.heard; refs = l.refs; new = l.new; made = l.made; charge = l.charge }
+
 -- Of the chart's row, the states, the data, the open elements and their names, the text, the position.
-unfoldable pub looked_in : Table → Table → Table → Table → Table → List ℕ → Position → Parsed → Looked
+unfoldable pub looked_in : Table → Table → Table → Table → Table → List ℕ → Position → Parsed → Told
 unfolding names_in found_in heard_in asked_in questions_by first_no is_innermost made_in charge_in
 looked_in cs ss ds xs ns t p v =
     let inner : Row = last_of [] xs in
@@ -35,14 +48,14 @@ looked_in cs ss ds xs ns t p v =
     }
 
 -- Of a store.
-unfoldable pub looked_of : Store → Parsed → Looked
+unfoldable pub looked_of : Store → Parsed → Told
 unfolding looked_in
 looked_of s v =
     looked_in (table_of s.numbers table.chart) (table_of s.numbers table.states) (table_of s.numbers table.datums) (table_of s.numbers table.opened)
     (table_of s.numbers table.open_names) s.text (position_of s) v
 
 -- What is told of the look l.
-pub record Tells (s : Store) (l : Look) (r : Looked) : Type 0 where
+pub record Tells (s : Store) (l : Look) (r : Told) : Type 0 where
   pub no : r.no ≡ first_no (questions limits01 s.numbers l)
   pub heard : r.heard ≡ heard l
   pub refs : r.refs ≡ length l.refs

@@ -1,18 +1,18 @@
-// Stage 1: all that is read of an event's text and of the tables by name, as numbers. The slices are the parts in use.
+// Stage 1: all that is read of an event's text and of the tables by name. The slices are the parts in use.
 
 #![tactic(auto)]
 
-ghost use Rattle.std.specs.Prelude.{◌≡◌, true, [], ◌<◌, ◌≤◌, length, get_or};
+ghost use Rattle.std.specs.Prelude.{◌≡◌, true, [], ◌<◌, ◌≤◌, length};
 ghost use Rattle.definition.specs.Limits.{limits01};
 ghost use Rattle.definition.specs.Rows.{num, last_of};
-ghost use Rattle.definition.specs.Rows as R;
 ghost use Rattle.definition.specs.Look.{name_cells};
 ghost use Rattle.definition.specs.Rules.{names_lead};
 ghost use Rattle.plain.specs.Plain.{parsed_in};
-ghost use Rattle.look.specs.Looked.{looked_in};
+ghost use Rattle.look.specs.Looked.{as_told, looked_in};
 
-use asked::first_no;
-use definition::cells::{ChartColumn, OpenColumn};
+use asked::{Place, first_no};
+use definition::cells::OpenColumn;
+use definition::codes::Refusal;
 use definition::{Position, StateId};
 use found::{found, is_innermost};
 use heard::heard;
@@ -20,12 +20,14 @@ use names::look_names;
 use payload::{charge, is_made};
 use plain::{Plain, bytes_of, index};
 use plan::Heard;
+use rows::lent::Tables;
+use rows::root_of;
 
-/// no: the first no of the questions 5 to 12, or 0. refs, new: how many names the event brings, the element's own included, and how many of them are new.
+/// asked: the first no of the questions 5 to 12. refs, new: how many names the event brings, the element's own included, and how many of them are new.
 /// made: whether a name is generated.
 #[derive(Clone, Copy)]
 pub struct Looked {
-    pub no: u32,
+    pub asked: Result<(), Refusal>,
     pub heard: Heard,
     pub refs: usize,
     pub new: usize,
@@ -38,60 +40,48 @@ fn inside(opened: &[[u32; 8]], c: usize) -> u32
     requires { c < 8 }
     ensures { result ≡ num (last_of [] opened.now) c }
 {
-    let depth = opened.len();
-    if depth == 0 {
-        return 0;
+    match opened.last() {
+        Some(row) => row[c],
+        None => 0,
     }
-    opened[depth - 1][c]
 }
 
-// The root's number; 0 without scxml.
-fn root_of(chart: &[[u32; 24]]) -> u32
-    ensures { result ≡ num (get_or chart.now 0 []) (R.chart).root }
-{
-    if chart.len() == 0 {
-        return 0;
-    }
-    chart[0][ChartColumn::ROOT]
-}
-
-pub fn look(
-    chart: &[[u32; 24]],
-    states: &[[u32; 24]],
-    datums: &[[u32; 8]],
-    opened: &[[u32; 8]],
-    open_names: &[[u8; 64]],
-    text: &[u8],
-    src: &[u8],
-    p: Plain,
-    position: Position,
-) -> Looked
-    requires states_len_bound { (length states.now ≤ limits01.states) × (length datums.now ≤ limits01.datums) }
+/// Of the rows in use.
+pub fn look(used: Tables<'_>, src: &[u8], p: Plain, position: Position) -> Looked
+    requires states_len_bound { (length used.states.now ≤ limits01.states) × (length used.datums.now ≤ limits01.datums) }
     requires names_le_drawn { position.names ≤ limits01.drawn }
-    requires states_value { names_lead text.now (name_cells states.now) 0 (name_cells states.now) ≡ true }
-    ensures { result ≡ looked_in chart.now states.now datums.now opened.now open_names.now text.now position (parsed_in src.now p) }
+    requires states_value { names_lead used.text.now (name_cells used.states.now) 0 (name_cells used.states.now) ≡ true }
+    ensures { as_told result ≡ looked_in used.entry.chart.now used.entry.states.now used.entry.datums.now used.entry.opened.now used.entry.open_names.now used.entry.text.now position (parsed_in src.now p) }
 {
-    let drawn = position.names;
-    let all = index(src, p);
-    let ix = all.keyed;
-    let n = look_names(states, text, src, p, ix, drawn);
-    let f = found(datums, text, inside(opened, OpenColumn::STATE), src, p, ix);
-    let own = n.own;
-    let h = heard(src, p, ix, StateId(own as u32), f as u32);
-    let inner = is_innermost(opened, open_names, p.tag, bytes_of(src, p.name));
-    let parent = inside(opened, OpenColumn::TAG);
-    let root = root_of(chart);
-    let no = first_no(src, p, ix, h, inner, position.opened, parent, root);
-    let made = is_made(src, p, ix);
-    let c = charge(src, p, all.total, made, drawn);
-    let refs = n.refs;
-    let new = n.new;
+    let event = index(src, p);
+    let names = look_names(used.states, used.text, &event, position.names);
+    let row = found(
+        used.datums,
+        used.text,
+        inside(used.opened, OpenColumn::STATE),
+        &event,
+    );
+    let heard = heard(&event, StateId(names.own as u32), row as u32);
+    let parent = inside(used.opened, OpenColumn::TAG);
+    let root = root_of(used.chart);
+    let place = Place {
+        innermost: is_innermost(
+            used.opened,
+            used.open_names,
+            event.plain.tag.number(),
+            bytes_of(event.src, event.plain.name),
+        ),
+        depth: position.opened,
+        parent,
+        root,
+    };
+    let made = is_made(&event);
     Looked {
-        no: no,
-        heard: h,
-        refs: refs,
-        new: new,
-        made: made,
-        charge: c,
+        asked: first_no(&event, heard, place),
+        heard,
+        refs: names.refs,
+        new: names.new,
+        made,
+        charge: charge(&event, made, position.names),
     }
 }

@@ -1,14 +1,13 @@
 -- Among names that are distinct, any row that has the name is the first, so rows may be compared in any order.
-use Prim.Native.Nat.{ℕ, zero, suc, ◌+◌, ◌-◌, ◌≤◌, ◌<◌}
+use Prim.Native.Nat.{ℕ, zero, suc, ◌+◌, ◌≤◌, ◌<◌}
 use mathlib.Core.Path.{◌≡◌, refl, sym, ap, ◌∙◌}
 use mathlib.Core.Bool.{Bool, true, false}
 use mathlib.Core.List.{List, [], ◌∷◌}
-use native.Mathlib.Numerals.{unary_clauses}
 use native.Mathlib.Omega.{arith}
 use lib.Dec.{eqb, ltb}
 use lib.ListN.{length, get_or, take}
 use lib.Seq.{get_or-take, length-take-le}
-use borrow.Author.Tests.{ltb-true, ltb-false, lt-ltb, le-ltb, eqb-true}
+use borrow.Author.Tests.{ltb-true, ltb-false, eqb-true}
 use Rattle.definition.specs.Text.{same}
 use Rattle.definition.specs.Rows.{Table, Cell, text_at, cell_at}
 use Rattle.definition.specs.Look.{find_name, name_cells}
@@ -16,7 +15,7 @@ use Rattle.definition.specs.Rules.{names_lead}
 use Rattle.definition.proofs.Base.{same_eq, true_is_false}
 use Rattle.definition.proofs.Finds.{find_miss}
 use Rattle.words.proofs.Laws.{by}
-use Rattle.names.specs.Names.{ends_so, last_like, is_named}
+use Rattle.names.specs.Names.{ends_so}
 use Rattle.names.proofs.LikeLaws.{Ending, like_not}
 
 -- ---- names that lead to their rows
@@ -40,98 +39,63 @@ none_found t w [] h = refl
 none_found t w (r ∷ rs) h =
     find_miss t (cell_at r 0) (name_cells rs) w (h 0 (omega arith)) ∙ ap suc (none_found t w rs (λ j k. h (suc j) (omega (arith, k))))
 
--- ---- the last row that may end so
-
-module _ (t : List ℕ) (b l : ℕ) (rows : Table) where
-  abbrev ends : ℕ → Bool
-  ends i = ends_so t (get_or (get_or rows i []) 0 0) b l
-
-  abbrev likes : ℕ → ℕ
-  likes n = last_like t b l rows n
-
-  last_hit : (n : ℕ) → ends n ≡ true → likes (suc n) ≡ suc n
-  unfolding last_like
-  last_hit n e = rw (e, last_like)
-
-  last_miss : (n : ℕ) → ends n ≡ false → likes (suc n) ≡ likes n
-  unfolding last_like
-  last_miss n e = rw (e, last_like)
-
-  pub last_found : (k s : ℕ) → 0 < k → likes k ≡ s → ends (k - 1) ≡ true → k ≡ s
-  last_found zero s h e q = absurd (omega arith)
-  last_found (suc n) s h e q = sym (last_hit n (simp unary_clauses at q)) ∙ e
-
-  pub last_passed : (k s : ℕ) → 0 < k → likes k ≡ s → ends (k - 1) ≡ false → likes (k - 1) ≡ s
-  last_passed zero s h e q = absurd (omega arith)
-  last_passed (suc n) s h e q = simp unary_clauses (sym (last_miss n (simp unary_clauses at q)) ∙ e)
-
-  pub last_end : (k s : ℕ) → k ≤ 0 → likes k ≡ s → 0 ≡ s
-  unfolding last_like
-  last_end zero s h e = e
-  last_end (suc n) s h e = absurd (omega arith)
-
-  last_over : (n i : ℕ) → likes n ≤ i → i < n → ends i ≡ false
-  last_over zero i g h = absurd (omega arith)
-  last_over (suc n) i g h =
-      by (ends n) (λ q. absurd (omega (arith, g, h, last_hit n q))) (λ q.
-      by (ltb i n) (λ z. last_over n i (omega (arith, g, last_miss n q)) (ltb-true i n z)) (λ z.
-      let y : i ≡ n = omega (arith, h, ltb-false i n z) in ap ends y ∙ q))
-
 -- ---- the search
 
-module _ (rows : Table) (count : ℕ) (t w : List ℕ) where
-  abbrev is : ℕ → Bool
-  is i = same (text_at t (record { at = get_or (get_or rows i []) 0 0; len = get_or (get_or rows i []) 1 0 })) w
+take_less : (k n : ℕ) (xs : Table) → k ≤ n → take k (take n xs) ≡ take k xs
+take_less zero n xs h = refl
+take_less (suc k) zero xs h = absurd (omega (arith, h))
+take_less (suc k) (suc n) [] h = refl
+take_less (suc k) (suc n) (x ∷ xs) h = ap (λ (ys : Table). x ∷ ys) (take_less k n xs (omega (arith, h)))
 
-  -- No row from k on has the name.
-  abbrev pub Without : ℕ → Type 0
-  Without k = (i : ℕ) → k ≤ i → i < count → is i ≡ false
+-- Whether the name of row i is w.
+abbrev is : (rows : Table) (t w : List ℕ) → ℕ → Bool
+is rows t w i = same (text_at t (cell_at (get_or rows i []) 0)) w
 
+-- No row from k on has the name.
+abbrev pub Without : Table → List ℕ → List ℕ → ℕ → Type 0
+Without rows t w k = (i : ℕ) → k ≤ i → i < length rows → is rows t w i ≡ false
+
+module _ (rows : Table) (t w : List ℕ) where
   abbrev cells : List Cell
-  cells = name_cells (take count rows)
+  cells = name_cells rows
 
-  pub near_found : (i : ℕ) (r : Bool) → r ≡ is_named t rows count w i → r ≡ true → (i < count) × (is i ≡ true)
-  unfolding is_named cell_at
-  near_found i r er q =
-      let e : is_named t rows count w i ≡ true = sym er ∙ q in
-      by (ltb i count) (λ z. (ltb-true i count z, rw (z, is_named) at e)) (λ z. true_is_false (sym (rw (z, is_named) at e)))
+  pub found_apart : names_lead t cells 0 cells ≡ true → (i : ℕ) → i < length rows → is rows t w i ≡ true → i ≡ find_name t cells w
+  found_apart e i h q =
+      let y : text_at t (cell_at (get_or rows i []) 0) ≡ w = same_eq (text_at t (cell_at (get_or rows i []) 0)) w q in
+      sym (sym (ap (find_name t cells) y) ∙ leads_at t cells 0 rows e i h ∙ omega arith)
 
-  pub near_beyond : (i : ℕ) → count ≤ i → false ≡ is_named t rows count w i
-  unfolding is_named
-  near_beyond i h = let z : ltb i count ≡ false = le-ltb i count h in rw (z, is_named)
+  pub none_apart : Without rows t w 0 → length rows ≡ find_name t cells w
+  none_apart h = sym (none_found t w rows (λ j g. h j (omega arith) g))
 
-  pub near_named : (i : ℕ) → i < count → (r : Bool) → r ≡ is i → r ≡ is_named t rows count w i
-  unfolding is_named cell_at
-  near_named i h r e = let z : ltb i count ≡ true = lt-ltb i count h in rw (z, is_named) e
+  pub without_start : (n : ℕ) → n ≡ length rows → Without rows t w n
+  without_start n e i g h = absurd (omega (arith, e, g, h))
 
-  module _ (fits : count ≤ length rows) where
-    pub found_apart : names_lead t cells 0 cells ≡ true → (i : ℕ) → i < count → is i ≡ true → i ≡ find_name t cells w
+  -- Behind row k of those that are left none may end so, and its own name is another.
+  module _ (start b l : ℕ) (tail : List ℕ) (E : Ending t w start b l tail) (n : ℕ) (left : Table) (el : left ≡ take n rows) (ln : length left ≡ n) (W : Without rows t w n) where
+    at_left : (i : ℕ) → i < n → get_or left i [] ≡ get_or rows i []
+    at_left i h = ap (λ (x : Table). get_or x i []) el ∙ get_or-take n rows i [] h
+
+    unlike : (i : ℕ) → i < n → ends_so tail (get_or (get_or left i []) 0 0) b l ≡ false → is rows t w i ≡ false
     unfolding cell_at
-    found_apart e i h q =
-        let x : find_name t cells (text_at t (cell_at (get_or (take count rows) i []) 0)) ≡ i = leads_at t cells 0 (take count rows) e i (omega (arith, h, length-take-le count rows fits)) ∙ omega arith in
-        let y : text_at t (cell_at (get_or rows i []) 0) ≡ w = same_eq (text_at t (cell_at (get_or rows i []) 0)) w q in
-        sym (sym (ap (find_name t cells) (ap (λ (r : List ℕ). text_at t (cell_at r 0)) (get_or-take count rows i [] h) ∙ y)) ∙ x)
+    unlike i h e =
+        like_not t w start b l tail E (record { at = get_or (get_or rows i []) 0 0; len = get_or (get_or rows i []) 1 0 })
+        (sym (ap (λ (r : List ℕ). ends_so tail (get_or r 0 0) b l) (at_left i h)) ∙ e)
 
-    pub none_apart : (k : ℕ) → k ≤ 0 → Without k → count ≡ find_name t cells w
-    unfolding cell_at
-    none_apart k z h =
-        let m : length (take count rows) ≡ count = length-take-le count rows fits in
-        sym (none_found t w (take count rows) (λ j g.
-        let i : j < count = omega (arith, g, m) in
-        ap (λ (r : List ℕ). same (text_at t (cell_at r 0)) w) (get_or-take count rows j [] i) ∙ h j (omega (arith, z)) i) ∙ m)
+    pub without_all : ((i : ℕ) → i < length left → ends_so tail (get_or (get_or left i []) 0 0) b l ≡ false) → Without rows t w 0
+    without_all f i g h = by (ltb i n) (λ z. let y : i < n = ltb-true i n z in unlike i y (f i (omega (arith, y, ln)))) (λ z. W i (ltb-false i n z) h)
 
-  module _ (start b l : ℕ) (tail : List ℕ) (E : Ending t w start b l tail) where
-    unlike : (i : ℕ) → ends_so tail (get_or (get_or rows i []) 0 0) b l ≡ false → is i ≡ false
-    unlike i e = like_not t w start b l tail E (record { at = get_or (get_or rows i []) 0 0; len = get_or (get_or rows i []) 1 0 }) e
-
-    pub without_start : (r : ℕ) → r ≡ last_like tail b l rows count → Without r
-    without_start r e i g h = unlike i (last_over tail b l rows count i (omega (arith, e, g)) h)
-
-    -- Row k - 1 has another name, and those below it down to r don't end so.
-    pub without_more : (k r : ℕ) → 0 < k → Without k → is (k - 1) ≡ false → r ≡ last_like tail b l rows (k - 1) → Without r
-    without_more k r p W q e i g h =
-        by (ltb i k)
+    pub without_more : (k : ℕ) → ((i : ℕ) → k < i → i < length left → ends_so tail (get_or (get_or left i []) 0 0) b l ≡ false) → is rows t w k ≡ false → Without rows t w k
+    without_more k f q i g h =
+        by (ltb i n)
         (λ z.
-        by (ltb i (k - 1)) (λ y. unlike i (last_over tail b l rows (k - 1) i (omega (arith, e, g)) (ltb-true i (k - 1) y))) (λ y.
-        let x : i ≡ k - 1 = omega (arith, p, ltb-true i k z, ltb-false i (k - 1) y) in ap is x ∙ q))
-        (λ z. W i (ltb-false i k z) h)
+        let y : i < n = ltb-true i n z in
+        by (ltb k i) (λ x. unlike i y (f i (ltb-true k i x) (omega (arith, y, ln)))) (λ x. let s : i ≡ k = omega (arith, g, ltb-false k i x) in ap (is rows t w) s ∙ q))
+        (λ z. W i (ltb-false i n z) h)
+
+  module _ (n : ℕ) (left : Table) (el : left ≡ take n rows) (ln : length left ≡ n) where
+    pub left_cut : n ≤ length rows → (k : ℕ) → k < length left → Without rows t w k
+        → (length (take k left) ≤ length rows) × (take k left ≡ take (length (take k left)) rows) × Without rows t w (length (take k left))
+    left_cut fits k h V =
+        let z : length (take k left) ≡ k = length-take-le k left (omega (arith, h)) in
+        let y : take k left ≡ take k rows = ap (take k) el ∙ take_less k n rows (omega (arith, h, ln)) in
+        (omega (arith, z, h, ln, fits), y ∙ ap (λ (m : ℕ). take m rows) (sym z), λ i g. V i (omega (arith, g, z)))

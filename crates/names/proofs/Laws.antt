@@ -3,20 +3,24 @@ use Prim.Native.Nat.{ℕ, zero, suc, ◌+◌, ◌-◌, ◌≤◌, ◌<◌}
 use mathlib.Core.Path.{◌≡◌, refl, sym, ap, ap₂, ◌∙◌, subst}
 use mathlib.Core.Bool.{Bool, true, false}
 use mathlib.Core.List.{List, [], ◌∷◌}
-use native.Mathlib.Numerals.{add-one}
 use native.Mathlib.Omega.{arith}
 use lib.Dec.{eqb, ltb}
-use lib.ListN.{length, get_or, take, drop, drop_of_length-le, length-take}
-use lib.Seq.{drop-cons, get_or-take}
+use lib.ListN.{length, take, drop, length-take}
 use borrow.Author.Tests.{ltb-true, ltb-false}
-use Rattle.definition.specs.Text.{same, bytes_at, Piece, pieces, emit, is_separator, state_words, words_by}
+use Rattle.definition.specs.Text.{same, bytes_at, Piece, is_separator, state_words, words_by}
 use Rattle.definition.specs.Rows.{Cell, text_at, text_from, cell_at}
 use Rattle.definition.specs.Look.{find_name, name_cells}
-use Rattle.definition.proofs.Finds.{find_hit, find_miss, cells_length}
+use Rattle.definition.proofs.Finds.{cells_length}
 use Rattle.text.proofs.Laws.{same_empty}
+use Rattle.std.proofs.Common.{Some, None, position, cond, not, unwrap_or}
+use Rattle.std.specs.Bool.{MatchBool}
+use Rattle.std.specs.List.{position_or_len, prefix_len, AllWithin, HoldsAt}
+use Rattle.std.proofs.lemmas.List.Folds.{length-prefix_len}
+use Rattle.words.proofs.Starred.{any_is}
 use Rattle.words.specs.declared.Word.{Word}
+use Rattle.words.specs.Left.{words_left}
 use Rattle.words.specs.Next.{next_word, piece_at}
-use Rattle.words.proofs.Laws.{by, next_order, next_inside, next_moves, next_none, next_some}
+use Rattle.words.proofs.Laws.{Step, step, by, next_order, next_inside, next_moves, next_some}
 use Rattle.names.specs.declared.Names.{Names}
 use Rattle.names.specs.Names.{words_from, occurs, new_if, is_known, new_in, first_of, first_nonzero, counted}
 
@@ -43,42 +47,22 @@ module _ (t : List ℕ) (at len : ℕ) (w : List ℕ) where
 
 -- ---- finding a name
 
--- The rows from i on.
-module _ (rows : List (List ℕ)) (count : ℕ) (fits : count ≤ length rows) (t w : List ℕ) (i : ℕ) where
-  abbrev rest : ℕ → ℕ
-  rest j = find_name t (name_cells (drop j (take count rows))) w
+module _ (t w : List ℕ) where
+  abbrev named : List ℕ → Bool
+  named r = same (text_at t (cell_at r 0)) w
 
-  abbrev all : ℕ
-  all = find_name t (name_cells (take count rows)) w
-
-  abbrev cell : Cell
-  cell = record { at = get_or (get_or rows i []) 0 0; len = get_or (get_or rows i []) 1 0 }
-
-  pub cells_next : i < count → name_cells (drop i (take count rows)) ≡ cell ∷ name_cells (drop (i + 1) (take count rows))
-  unfolding name_cells cell_at
-  cells_next h =
-      let m : i < length (take count rows) = omega (arith, length-take count rows) in
-      rw (drop-cons (take count rows) i [] m, get_or-take count rows i [] h, add-one)
-
-  pub row_found : i < count → i + rest i ≡ all → same (text_at t cell) w ≡ true → i ≡ all
-  row_found h e s = let z : rest i ≡ 0 = ap (λ (cs : List Cell). find_name t cs w) (cells_next h) ∙ find_hit t cell _ w s in omega (arith, z, e)
-
-  pub row_passed : i < count → i + rest i ≡ all → same (text_at t cell) w ≡ false → i + 1 + rest (i + 1) ≡ all
-  row_passed h e s = let z : rest i ≡ suc (rest (i + 1)) = ap (λ (cs : List Cell). find_name t cs w) (cells_next h) ∙ find_miss t cell _ w s in omega (arith, z, e)
-
-  pub rows_end : count ≤ i → i + rest i ≡ all → i ≡ all
+  find_is : (rows : List (List ℕ)) → position_or_len named rows ≡ find_name t (name_cells rows) w
   unfolding find_name name_cells
-  rows_end h e =
-      let m : length (take count rows) ≤ i = omega (arith, length-take count rows) in
-      let z : rest i ≡ 0 = ap (λ (rs : List (List ℕ)). find_name t (name_cells rs) w) (drop_of_length-le (take count rows) m) in
-      omega (arith, z, e)
+  find_is [] = refl
+  find_is (r ∷ rows) = by (named r) (λ q. rw (q, find_name)) (λ q. rw (q, find_name) (omega (arith, find_is rows)))
+
+  pub named_at : (rows : List (List ℕ)) → unwrap_or (position named rows) (length rows) ≡ find_name t (name_cells rows) w
+  named_at rows = go (position_or_len named rows) (length rows) (omega (arith, length-prefix_len (λ (r : List ℕ). not (named r)) rows, length-take (prefix_len (λ (r : List ℕ). not (named r)) rows) rows)) ∙ find_is rows
+    where
+      go : (n m : ℕ) → n ≤ m → unwrap_or (cond (ltb n m) (Some n) None) m ≡ n
+      go n m h = by (ltb n m) (λ f. rw f) (λ f. rw f (omega (arith, h, ltb-false n m f)))
 
 -- ---- words of a value from a place on
-
--- No word is left at the end.
-pub words_end : (v : List ℕ) (at : ℕ) → length v ≤ at → words_from v at ≡ []
-unfolding pieces emit
-words_end v at h = rw (drop_of_length-le v h)
 
 module _ (v : List ℕ) (at : ℕ) (x : Word) (e : x ≡ next_word is_separator v at) where
   abbrev word : List ℕ
@@ -86,9 +70,6 @@ module _ (v : List ℕ) (at : ℕ) (x : Word) (e : x ≡ next_word is_separator 
 
   pub word_lies : at < length v → (x.start ≤ x.end) × (x.end ≤ length v) × (at < x.end)
   word_lies h = rw e (next_order is_separator v at, next_inside is_separator v at (omega arith), next_moves is_separator v at h)
-
-  pub words_none : x.start ≡ x.end → words_from v at ≡ []
-  words_none h = next_none is_separator v at (omega (arith, h, ap (λ (y : Word). y.start) e, ap (λ (y : Word). y.end) e))
 
   pub words_next : (x.start ≡ x.end → ⊥) → at < length v → words_from v at ≡ record { off = x.start; word = word } ∷ words_from v x.end
   unfolding piece_at
@@ -110,6 +91,10 @@ module _ (w : List ℕ) (p : Piece) (ps : List Piece) where
   pub occurs_later : same p.word w ≡ false → occurs w (p ∷ ps) ≡ occurs w ps
   unfolding occurs
   occurs_later e = rw (e, occurs)
+
+pub occurs_any : (w : List ℕ) (ps : List Piece) (r : Bool) → MatchBool r ((k : ℕ) × (k < length ps) × HoldsAt (λ p. same p.word w ≡ true) ps k) (AllWithin (λ p. same p.word w ≡ false) ps 0 (length ps)) → r ≡ occurs w ps
+unfolding occurs
+occurs_any w = any_is (λ (p : Piece). same p.word w) (occurs w) refl (λ p ps e. sym (occurs_here w p ps e)) (λ p ps e. sym (occurs_later w p ps e))
 
 pub occurs_none : (w : List ℕ) (ps : List Piece) → ps ≡ [] → occurs w ps ≡ false
 unfolding occurs
@@ -146,6 +131,12 @@ pub record Counting (t : List ℕ) (cs : List Cell) (v : List ℕ) (own refs new
   pub first : first_nonzero own (first_of t cs (words_from v at)) ≡ first_of t cs (state_words v)
   pub all : refs + length (words_from v at) ≡ length (state_words v)
   pub news : new + new_in t cs (words_from v at) ≡ new_in t cs (state_words v)
+
+-- The same, where the words that are left are known and not where they begin.
+pub record CountingTo (t : List ℕ) (cs : List Cell) (v : List ℕ) (own refs new : ℕ) (ps : List Piece) : Type 0 where
+  pub at : ℕ
+  pub left : ps ≡ words_left is_separator v at
+  pub counting : Counting t cs v own refs new at
 
 pub first_zero : (a b : ℕ) → a ≡ 0 → b ≡ first_nonzero a b
 unfolding first_nonzero
@@ -204,6 +195,31 @@ module _ (t : List ℕ) (cs : List Cell) (v : List ℕ) where
               ∙ sym (ap (λ (ps : List Piece). first_nonzero own (first_of t cs ps)) z) ∙ k.first;
           all = omega (arith, a, k.all);
           news = omega (arith, b, k.news);
+        }
+
+-- One word more, as the iterator gives it.
+module _ (t : List ℕ) (cs : List Cell) (v : List ℕ) (own refs new : ℕ) (ps : List Piece) (K : CountingTo t cs v own refs new ps) where
+  pub counting_ends : ps ≡ [] → (record { own = own; refs = refs; new = new } ≡ counted t cs (state_words v)) × ((refs ≤ length v) × (new ≤ length v))
+  unfolding words_left
+  counting_ends e = counted_all t cs v own refs new K.at K.counting (sym K.left ∙ e)
+
+  module _ (p : Piece) (qs : List Piece) (e : ps ≡ p ∷ qs) where
+    abbrev S : Step is_separator v K.at p qs
+    S = step is_separator v K.at p qs (sym K.left ∙ e)
+
+    pub word_ends : p.off + length p.word ≤ length v
+    word_ends = omega (arith, S.ends, S.within)
+
+    pub counting_goes : (j : ℕ) → j ≡ find_name t cs p.word → (o : ℕ) → o ≡ first_nonzero own (j + 1)
+        → (n : ℕ) → n ≡ new_if (is_known t cs p.word) p.word (words_from v (p.off + length p.word)) → n ≤ 1 → CountingTo t cs v o (refs + 1) (new + n) qs
+    counting_goes j ej o eo n en one =
+        let w : p.word ≡ take (S.word.end - S.word.start) (drop S.word.start v) = ap (λ (q : Piece). q.word) S.piece in
+        record {
+          at = S.word.end;
+          left = S.rest;
+          counting =
+              counting_more t cs v own refs new K.at K.counting S.word S.is S.some S.there j (ej ∙ ap (find_name t cs) w) o eo n
+              (en ∙ ap₂ (λ (x : List ℕ) (k : ℕ). new_if (is_known t cs x) x (words_from v k)) w S.ends) one;
         }
 
 -- The element's own name w before the words of v.

@@ -1,13 +1,13 @@
 -- Rows whose names don't end as the name that is looked for are passed over.
 use Prim.Native.Nat.{ℕ, zero, suc, ◌+◌, ◌-◌, ◌≤◌, ◌<◌}
 use mathlib.Core.Path.{◌≡◌, refl, sym, ap, ap₂, ◌∙◌}
-use mathlib.Core.Bool.{Bool, true, false, ◌||◌}
+use mathlib.Core.Bool.{Bool, true, false}
 use mathlib.Core.List.{List}
 use native.Mathlib.Omega.{arith}
-use lib.Dec.{eqb, ltb}
+use lib.Dec.{eqb}
 use lib.ListN.{length, get_or, take, drop, length-drop, length-take}
 use lib.Seq.{get_or-take, get_or-drop, take-length}
-use borrow.Author.Tests.{ltb-false, lt-ltb, le-ltb, eq-eqb, ne_eqb}
+use borrow.Author.Tests.{lt-ltb, le-ltb, eq-eqb, ne_eqb}
 use Rattle.definition.specs.Text.{same, bytes_at}
 use Rattle.definition.specs.Rows.{Cell, text_at, text_from}
 use Rattle.definition.proofs.Base.{same_eq}
@@ -44,13 +44,6 @@ module _ (t : List ℕ) (at before last : ℕ) where
       ends_both z = ends_by false (ne_eqb at 0 z)
 
 -- ---- who doesn't end so is another
-
-pub long_enough_lem : (n m : ℕ) → (ltb n 2 || ltb m n) ≡ false → (2 ≤ n) × (n ≤ m)
-long_enough_lem n m e = go (ltb n 2) refl e
-  where
-    go : (a : Bool) → ltb n 2 ≡ a → (a || ltb m n) ≡ false → (2 ≤ n) × (n ≤ m)
-    go true q e = let z : ◌≡◌ {A = ℕ} 0 1 = cc in absurd (omega (arith, z))
-    go false q e = (ltb-false n 2 q, ltb-false m n e)
 
 -- What is kept of w for the rows: where its last two bytes stand, these, and the text that the rows are read in.
 pub record Ending (t w : List ℕ) (start b l : ℕ) (tail : List ℕ) : Type 0 where

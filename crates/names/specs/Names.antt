@@ -1,10 +1,10 @@
 -- The names that an event brings: found and counted. A name that stands several times is counted where it stands last, so that a count looks ahead only and
 -- keeps no list.
-use Rattle.std.specs.Prelude.{ℕ, zero, suc, ◌+◌, ◌-◌, Bool, true, false, List, [], ◌∷◌, length, get_or, drop, eqb, ltb}
+use Rattle.std.specs.Prelude.{ℕ, ◌≡◌, ◌<◌, Option, MatchOption, zero, suc, ◌+◌, ◌-◌, Bool, true, false, List, [], ◌∷◌, length, get_or, drop, eqb, ltb}
 use Rattle.definition.specs.Text.{same, Piece, pieces, is_separator, state_words, generated_name}
 use Rattle.definition.specs.Elements.{tag, key, names_state}
 use Rattle.definition.specs.Event.{kind}
-use Rattle.definition.specs.Rows.{Table, state, num, Cell, cell_at, text_at}
+use Rattle.definition.specs.Rows.{Table, state, num, Cell}
 use Rattle.definition.specs.Look.{Load, has_load, find_name}
 use Rattle.definition.proofs.Places.{Fits}
 use Rattle.plain.specs.Plain.{Parsed}
@@ -23,16 +23,11 @@ ends_so t at before last =
       | true ↦ elim (eqb (get_or t at 0) last) [ false ↦ false | true ↦ elim (eqb at 0) [ true ↦ false | false ↦ eqb (get_or t (at - 1) 0) before ] ]
     ]
 
--- The last of the first n rows whose name may end so, from 1; 0 if none may.
-unfoldable pub last_like : List ℕ → ℕ → ℕ → Table → ℕ → ℕ
-unfolding ends_so
-last_like t before last rows zero = 0
-last_like t before last rows (suc n) = elim (ends_so t (num (get_or rows n []) state.name) before last) [ true ↦ suc n | false ↦ last_like t before last rows n ]
-
--- Whether row i is one of the first n and its name is w.
-unfoldable pub is_named : List ℕ → Table → ℕ → List ℕ → ℕ → Bool
-unfolding same text_at cell_at
-is_named t rows n w i = elim (ltb i n) [ true ↦ same (text_at t (cell_at (get_or rows i []) state.name)) w | false ↦ false ]
+-- Which row is the last whose name may end so: those behind it may not, and without one no row may.
+abbrev pub IsLastLike : List ℕ → ℕ → ℕ → Table → Option ℕ → Type 0
+IsLastLike t before last rows o =
+    MatchOption o ((i : ℕ) → i < length rows → ends_so t (num (get_or rows i []) state.name) before last ≡ false)
+    (λ k. (k < length rows) × ((i : ℕ) → k < i → i < length rows → ends_so t (num (get_or rows i []) state.name) before last ≡ false))
 
 -- The words of a value from a place on.
 abbrev pub words_from : List ℕ → ℕ → List Piece

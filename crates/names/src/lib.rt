@@ -2,24 +2,22 @@
 
 #![tactic(auto)]
 
-ghost use Rattle.std.specs.Prelude.{◌≡◌, true, ◌∷◌, [], ◌+◌, ◌<◌, ◌≤◌, length, take, drop};
+ghost use Rattle.std.specs.Prelude.{◌≡◌, true, ◌∷◌, [], ◌<◌, ◌≤◌, length, get_or, position};
 ghost use Rattle.definition.specs.Text as T;
 ghost use Rattle.definition.specs.Text.{state_words};
-ghost use Rattle.definition.specs.Rows.{text_at};
+ghost use Rattle.definition.specs.Rows.{text_at, cell_at};
 ghost use Rattle.definition.specs.Limits.{limits01};
 ghost use Rattle.definition.specs.Look.{find_name, name_cells};
 ghost use Rattle.definition.specs.Rules.{names_lead};
-ghost use Rattle.plain.specs.Plain.{slots_of, parsed_in};
-ghost use Rattle.plain.specs.Keyed.{keyed_of};
-ghost use Rattle.names.specs.Names.{ends_so, last_like, is_named, words_from, occurs, new_if, first_nonzero, counted, state_names, names_in};
+ghost use Rattle.plain.specs.Plain.{parsed_in};
+ghost use Rattle.names.specs.Names.{ends_so, IsLastLike, words_from, occurs, new_if, counted, state_names, names_in};
 
 use definition::cells::StateColumn;
 use definition::codes::{Key, Kind, Tag};
 use nesting::names_state;
-use plain::{Keyed, Plain, has, value};
-use rows::index;
+use plain::indexed::Indexed;
 use text::{same, same_at};
-use words::next_state_word;
+use words::each::StateWords;
 use written::put_generated;
 
 // Whether the text of a cell is w, byte by byte.
@@ -29,7 +27,7 @@ pub fn is_at(text: &[u8], at: u32, len: u32, w: &[u8]) -> bool
     if at == 0 {
         return w.len() == 0;
     }
-    same_at(text, index(at) - 1, index(len), w)
+    same_at(text, at as usize - 1, len as usize, w)
 }
 
 // Whether a name that begins at `at`, from 1, may end in these two bytes; `tail` is the text from two bytes before its length on, so that it is read by `at` alone.
@@ -48,125 +46,91 @@ fn ends_so(tail: &[u8], at: usize, before: u8, last: u8) -> bool
     tail[at - 1] == before
 }
 
+// Whether the name of a row is w.
+#[tactic(auto, unfolding(definition::specs::Rows::cell_at))]
+fn is_named(row: &[u32; 24], text: &[u8], w: &[u8]) -> bool
+    ensures { result ≡ T.same (text_at text.now (cell_at row.now 0)) w.now }
+{
+    is_at(
+        text,
+        row[StateColumn::NAME],
+        row[StateColumn::NAME_LENGTH],
+        w,
+    )
+}
+
+// The first row whose name is w.
+fn first_named(states: &[[u32; 24]], text: &[u8], w: &[u8]) -> Option<usize>
+    ensures { result ≡ position (λ row. T.same (text_at text.now (cell_at row 0)) w.now) states.now }
+{
+    states.iter().position(|row| is_named(row, text, w))
+}
+
 // For any w.
-fn find_short(states: &[[u32; 24]], count: usize, text: &[u8], w: &[u8]) -> usize
-    requires { count ≤ length states.now }
-    ensures value { result ≡ find_name text.now (name_cells (take count states.now)) w.now }
-    ensures upper_bound { result ≤ count }
+fn find_short(states: &[[u32; 24]], text: &[u8], w: &[u8]) -> usize
+    ensures { result ≡ find_name text.now (name_cells states.now) w.now }
 {
-    let mut i = 0;
-    while i < count {
-        let at = states[i][StateColumn::NAME];
-        let len = states[i][StateColumn::NAME_LENGTH];
-        if is_at(text, at, len, w) {
-            return i;
-        }
-        i += 1;
-    }
-    i
+    first_named(states, text, w).unwrap_or(states.len())
 }
 
-// Whether `near` is one of the first `count` rows and its name is w.
-fn is_row(states: &[[u32; 24]], count: usize, text: &[u8], w: &[u8], near: usize) -> bool
-    requires { count ≤ length states.now }
-    ensures { result ≡ is_named text.now states.now count w.now near }
+// The last row whose name may end so.
+fn last_like(states: &[[u32; 24]], tail: &[u8], before: u8, last: u8) -> Option<usize>
+    ensures { IsLastLike tail.now before last states.now result }
 {
-    if count <= near {
-        return false;
-    }
-    let at = states[near][StateColumn::NAME];
-    let len = states[near][StateColumn::NAME_LENGTH];
-    is_at(text, at, len, w)
-}
-
-// The last of the first `count` rows whose name may end so, from 1; 0 if there is none.
-fn last_like(states: &[[u32; 24]], count: usize, tail: &[u8], before: u8, last: u8) -> usize
-    requires { count ≤ length states.now }
-    ensures value { result ≡ last_like tail.now before last states.now count }
-    ensures upper_bound { result ≤ count }
-{
-    let mut k = count;
-    while 0 < k {
-        if ends_so(tail, index(states[k - 1][StateColumn::NAME]), before, last) {
-            return k;
-        }
-        k -= 1;
-    }
-    0
+    states.iter().rposition(
+        |row| -> bool
+            ensures { result ≡ ends_so tail.entry.now (get_or row.now 0 0) before last }
+        { ends_so(tail, row[StateColumn::NAME] as usize, before, last) },
+    )
 }
 
 // For a w of two bytes and more: names often begin alike and differ in their last bytes, so only rows with those are compared. From the last row down: a chart
 // mostly names states that stand near.
-fn find_last(states: &[[u32; 24]], count: usize, text: &[u8], w: &[u8]) -> usize
-    requires count_in_bounds { count ≤ length states.now }
+fn find_last(states: &[[u32; 24]], text: &[u8], w: &[u8]) -> usize
     requires in_bounds { (2 ≤ length w.now) × (length w.now ≤ length text.now) }
-    requires states_value { names_lead text.now (name_cells (take count states.now)) 0 (name_cells (take count states.now)) ≡ true }
-    ensures value { result ≡ find_name text.now (name_cells (take count states.now)) w.now }
-    ensures upper_bound { result ≤ count }
+    requires states_value { names_lead text.now (name_cells states.now) 0 (name_cells states.now) ≡ true }
+    ensures { result ≡ find_name text.now (name_cells states.now) w.now }
 {
     let start = w.len() - 2;
     let before = w[start];
     let last = w[start + 1];
     let tail = &text[start..];
-    let mut k = last_like(states, count, tail, before, last);
-    while 0 < k {
-        let at = states[k - 1][StateColumn::NAME];
-        let len = states[k - 1][StateColumn::NAME_LENGTH];
-        if is_at(text, at, len, w) {
-            return k - 1;
+    let mut rest = states;
+    while let Some(k) = last_like(rest, tail, before, last) {
+        if is_named(&states[k], text, w) {
+            return k;
         }
-        k = last_like(states, k - 1, tail, before, last);
+        rest = &rest[..k];
     }
-    count
+    states.len()
 }
 
-// The first of `count` rows whose name is w, from 0; `count` if there is none. Names are distinct where question 2 is yes, so any row that has the name is the
-// first; the row `near` is looked at before the others.
-pub fn find_state(states: &[[u32; 24]], count: usize, text: &[u8], w: &[u8], near: usize) -> usize
-    requires count_in_bounds { count ≤ length states.now }
-    requires states_value { names_lead text.now (name_cells (take count states.now)) 0 (name_cells (take count states.now)) ≡ true }
-    ensures value { result ≡ find_name text.now (name_cells (take count states.now)) w.now }
-    ensures upper_bound { result ≤ count }
-{
-    if is_row(states, count, text, w, near) {
-        return near;
-    }
-    if (w.len() < 2) | (text.len() < w.len()) {
-        return find_short(states, count, text, w);
-    }
-    find_last(states, count, text, w)
-}
-
-// Of all rows.
-fn find_name(states: &[[u32; 24]], text: &[u8], w: &[u8], near: usize) -> usize
+// The first row whose name is w, from 0; how many rows there are if there is none. Names are distinct where question 2 is yes, so any row that has the name is
+// the first; the row `near` is looked at before the others.
+pub fn find_state(states: &[[u32; 24]], text: &[u8], w: &[u8], near: usize) -> usize
     requires { names_lead text.now (name_cells states.now) 0 (name_cells states.now) ≡ true }
     ensures value { result ≡ find_name text.now (name_cells states.now) w.now }
     ensures upper_bound { result ≤ length states.now }
 {
-    find_state(states, states.len(), text, w, near)
+    if let Some(row) = states.get(near) {
+        if is_named(row, text, w) {
+            return near;
+        }
+    }
+    if (w.len() < 2) | (text.len() < w.len()) {
+        return find_short(states, text, w);
+    }
+    find_last(states, text, w)
 }
 
 // Whether w is one of the words of v from `from` on.
 fn is_word(v: &[u8], from: usize, w: &[u8]) -> bool
     ensures { result ≡ occurs w.now (words_from v.now from) }
 {
-    let mut at = from;
-    while at < v.len() {
-        let next = next_state_word(v, at);
-        let start = next.start;
-        let end = next.end;
-        if start == end {
-            return false;
-        }
-        if same(&v[start..end], w) {
-            return true;
-        }
-        at = end;
-    }
-    false
+    StateWords { v, at: from }.any(|found| same(found.word, w))
 }
 
-// 1 if w is not known and none of the words of v from `from` on; else 0.
+// It is added up, so it is a number and no yes: 1 if w is not known and none of the words of v from `from` on; else 0.
 fn new_if(known: bool, w: &[u8], v: &[u8], from: usize) -> usize
     ensures value { result ≡ new_if known w.now (words_from v.now from) }
     ensures upper_bound { result ≤ 1 }
@@ -188,42 +152,25 @@ pub struct Names {
     pub new: usize,
 }
 
-// The number that stays: the first.
-fn first(one: usize, other: usize) -> usize
-    ensures { result ≡ first_nonzero one other }
-{
-    if one == 0 {
-        return other;
-    }
-    one
-}
-
 // The words of v. States that are listed together are often neighbours, so the row after the last one found is looked at first.
 fn count_names(states: &[[u32; 24]], text: &[u8], v: &[u8]) -> Names
     requires { names_lead text.now (name_cells states.now) 0 (name_cells states.now) ≡ true }
     ensures value { result ≡ counted text.now (name_cells states.now) (state_words v.now) }
     ensures refs_in_bounds { (result.refs ≤ length v.now) × (result.new ≤ length v.now) }
 {
-    let count = states.len();
     let mut own = 0;
     let mut refs = 0;
     let mut new = 0;
     let mut near = 0;
-    let mut at = 0;
-    while at < v.len() {
-        let next = next_state_word(v, at);
-        let start = next.start;
-        let end = next.end;
-        if start == end {
-            return Names { own, refs, new };
-        }
-        let w = &v[start..end];
-        let k = find_name(states, text, w, near);
+    for found in (StateWords { v, at: 0 }) {
+        let w = found.word;
+        let k = find_state(states, text, w, near);
         near = k + 1;
-        own = first(own, near);
-        new += new_if(k < count, w, v, end);
+        if own == 0 {
+            own = near;
+        }
+        new += new_if(k < states.len(), w, v, found.off + w.len());
         refs += 1;
-        at = end;
     }
     Names { own, refs, new }
 }
@@ -235,7 +182,7 @@ fn count_with(states: &[[u32; 24]], text: &[u8], own: &[u8], v: &[u8]) -> Names
     ensures { result ≡ counted text.now (name_cells states.now) (record { off = 0; word = own.now } ∷ state_words v.now) }
 {
     let n = count_names(states, text, v);
-    let k = find_name(states, text, own, 0);
+    let k = find_state(states, text, own, 0);
     let one = new_if(k < states.len(), own, v, 0);
     let refs = n.refs;
     let new = n.new;
@@ -247,28 +194,21 @@ fn count_with(states: &[[u32; 24]], text: &[u8], own: &[u8], v: &[u8]) -> Names
 }
 
 // Of scxml, state, parallel, final and history; `drawn` names were generated before.
-fn look_state(
-    states: &[[u32; 24]],
-    text: &[u8],
-    src: &[u8],
-    p: Plain,
-    ix: Keyed,
-    drawn: u32,
-) -> Names
-    requires drawn_le_drawn { (drawn ≤ limits01.drawn) × (ix ≡ keyed_of (slots_of p)) }
+fn look_state(states: &[[u32; 24]], text: &[u8], event: &Indexed<'_>, drawn: u32) -> Names
+    requires drawn_le_drawn { drawn ≤ limits01.drawn }
     requires states_value { names_lead text.now (name_cells states.now) 0 (name_cells states.now) ≡ true }
-    ensures { result ≡ counted text.now (name_cells states.now) (state_names drawn (parsed_in src.now p).values) }
+    ensures { result ≡ counted text.now (name_cells states.now) (state_names drawn (parsed_in event.now.src.now event.now.plain).values) }
 {
-    let initial = value(src, ix, Key::INITIAL);
-    if has(ix, Key::ID) {
-        let id = value(src, ix, Key::ID);
-        return count_with(states, text, id, initial);
+    let initial = event.value(Key::Initial);
+    if event.has(Key::Id) {
+        return count_with(states, text, event.value(Key::Id), initial);
     }
     let mut made = [0u8; 24];
     let n = put_generated(&mut made, drawn + 1);
     count_with(states, text, &made[0..n], initial)
 }
 
+// Of no names. That it looks like `parts: no_part` is chance: the types have nothing in common.
 fn none() -> Names
     ensures { result ≡ counted [] [] [] }
 {
@@ -280,26 +220,19 @@ fn none() -> Names
 }
 
 // `drawn` names were generated before.
-pub fn look_names(
-    states: &[[u32; 24]],
-    text: &[u8],
-    src: &[u8],
-    p: Plain,
-    ix: Keyed,
-    drawn: u32,
-) -> Names
-    requires drawn_le_drawn { (drawn ≤ limits01.drawn) × (ix ≡ keyed_of (slots_of p)) }
+pub fn look_names(states: &[[u32; 24]], text: &[u8], event: &Indexed<'_>, drawn: u32) -> Names
+    requires drawn_le_drawn { drawn ≤ limits01.drawn }
     requires states_value { names_lead text.now (name_cells states.now) 0 (name_cells states.now) ≡ true }
-    ensures { result ≡ names_in text.now (name_cells states.now) drawn (parsed_in src.now p) }
+    ensures { result ≡ names_in text.now (name_cells states.now) drawn (parsed_in event.now.src.now event.now.plain) }
 {
-    if p.kind == Kind::END {
+    if event.plain.kind == Kind::End {
         return none();
     }
-    if names_state(p.tag) {
-        return look_state(states, text, src, p, ix, drawn);
+    if names_state(event.plain.tag.number()) {
+        return look_state(states, text, event, drawn);
     }
-    if p.tag == Tag::TRANSITION {
-        return count_names(states, text, value(src, ix, Key::TARGET));
+    if event.plain.tag == Tag::Transition {
+        return count_names(states, text, event.value(Key::Target));
     }
     none()
 }

@@ -39,18 +39,6 @@ const NESTING: [[u8; 7]; 25] = [
     [1, 16, 18, 17, 24, 25, 11],
 ];
 
-fn wide(x: u32) -> usize
-    ensures { result ≡ x }
-{
-    x as usize
-}
-
-fn number(x: u8) -> u32
-    ensures { result ≡ x }
-{
-    x as u32
-}
-
 fn parents_at(row: usize) -> [u8; 7]
     requires { row < 25 }
     ensures { result ≡ get_or parent_rows row [] }
@@ -58,20 +46,18 @@ fn parents_at(row: usize) -> [u8; 7]
     NESTING[row]
 }
 
+// Elements are numbers here, as the table and the rows of open elements hold them (C lends rows of numbers).
 // Whether parent is one of a row's, which end at the first zero.
 fn is_listed(row: [u8; 7], parent: u32) -> bool
     ensures { result ≡ among parent (listed row) }
 {
-    let mut i = 0;
-    while i < 7 {
-        let p = number(row[i]);
+    for p in row {
         if p == 0 {
             return false;
         }
-        if p == parent {
+        if u32::from(p) == parent {
             return true;
         }
-        i += 1;
     }
     false
 }
@@ -80,27 +66,30 @@ fn is_listed(row: [u8; 7], parent: u32) -> bool
 pub fn parent_allowed(tag: u32, parent: u32) -> bool
     ensures { result ≡ parent_allowed tag parent }
 {
-    if tag < Tag::STATE {
+    if tag < Tag::State as u32 {
         return true;
     }
-    if Tag::SCRIPT < tag {
+    if (Tag::Script as u32) < tag {
         return true;
     }
-    is_listed(parents_at(wide(tag - Tag::STATE)), parent)
+    is_listed(parents_at((tag - Tag::State as u32) as usize), parent)
 }
 
 // data, script, content, assign: come as `whole` or `empty`.
 pub fn holds_text(tag: u32) -> bool
     ensures { result ≡ holds_text tag }
 {
-    (tag == Tag::DATA) | ((tag == Tag::SCRIPT) | ((tag == Tag::CONTENT) | (tag == Tag::ASSIGN)))
+    (tag == Tag::Data as u32)
+        | ((tag == Tag::Script as u32)
+            | ((tag == Tag::Content as u32) | (tag == Tag::Assign as u32)))
 }
 
 // scxml, state, parallel, final, history: their `id` names a state.
 pub fn names_state(tag: u32) -> bool
     ensures { result ≡ names_state tag }
 {
-    (tag == Tag::SCXML)
-        | ((tag == Tag::STATE)
-            | ((tag == Tag::PARALLEL) | ((tag == Tag::FINAL) | (tag == Tag::HISTORY))))
+    (tag == Tag::Scxml as u32)
+        | ((tag == Tag::State as u32)
+            | ((tag == Tag::Parallel as u32)
+                | ((tag == Tag::Final as u32) | (tag == Tag::History as u32))))
 }

@@ -6,7 +6,7 @@ ghost use Rattle.std.specs.Prelude.{◌≡◌};
 
 use definition::{StateId, TransitionId};
 
-/// Of the innermost open element: the state and the transition that its content stands in, and its tag.
+/// Of the innermost open element: the state and the transition that its content stands in, and its tag, a number as the row has it (C lends rows of numbers).
 #[derive(Clone, Copy)]
 pub struct Open {
     pub state: StateId,

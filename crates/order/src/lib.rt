@@ -34,7 +34,7 @@ pub fn rises(t: &[[u32; 8]]) -> bool
     true
 }
 
-/// No row's number is one of the others': both tables rise, so one walk along both shows it.
+/// No row's number is one of the others': both tables rise, so one walk along both shows it. It is a loop with a condition, since either place may move on.
 pub fn none_in(others: &[[u32; 8]], t: &[[u32; 8]]) -> bool
     requires { Rising others.now × Rising t.now }
     ensures { result ≡ R.none_in others.now t.now }
@@ -68,18 +68,6 @@ fn hash(name: &[u8]) -> u32
     h
 }
 
-// Whether a text, given with its hash, is the name: texts of another hash are not looked at.
-fn is_named(text: &[u8], at: u32, len: u32, own: u32, h: u32, name: &[u8]) -> bool
-    requires own_value { own ≡ hash_of (text_from text.now at len) }
-    requires h_value { h ≡ hash_of name.now }
-    ensures { result ≡ T.same (text_from text.now at len) name.now }
-{
-    if own != h {
-        return false;
-    }
-    same(text_from(text, at, len), name)
-}
-
 // The place of the first state with a name, from 0; the number of states where none has it.
 fn find_name(text: &[u8], states: &[[u32; 24]], hashes: &[u32], h: u32, name: &[u8]) -> usize
     requires hashed { Hashed text.now states.now hashes.now }
@@ -87,14 +75,13 @@ fn find_name(text: &[u8], states: &[[u32; 24]], hashes: &[u32], h: u32, name: &[
     ensures { result ≡ find_name text.now (name_cells states.now) name.now }
 {
     for (i, row) in states.iter().enumerate() {
-        if is_named(
-            text,
-            row[StateColumn::NAME],
-            row[StateColumn::NAME_LENGTH],
-            hashes[i],
-            h,
-            name,
-        ) {
+        // Names of another hash are not looked at.
+        if hashes[i] == h
+            && same(
+                text_from(text, row[StateColumn::NAME], row[StateColumn::NAME_LENGTH]),
+                name,
+            )
+        {
             return i;
         }
     }
@@ -118,10 +105,11 @@ pub fn names_lead(text: &[u8], states: &[[u32; 24]]) -> bool
     true
 }
 
+// By a row's number: C lends rows of numbers.
 fn is_block(tag: u32) -> bool
     ensures { result ≡ R.is_block tag }
 {
-    (tag == Tag::IF) | (tag == Tag::FOREACH)
+    (tag == Tag::If as u32) | (tag == Tag::Foreach as u32)
 }
 
 /// How many rows have if or foreach in a column.
@@ -139,7 +127,7 @@ pub fn open_tags_fit(t: &[[u32; 8]]) -> bool
     let mut below = 0;
     for row in t {
         let tag = row[OpenRegionColumn::TAG];
-        if !(is_block(tag) | ((tag == Tag::ELSEIF) & (below == Tag::IF))) {
+        if !(is_block(tag) | ((tag == Tag::Elseif as u32) & (below == Tag::If as u32))) {
             return false;
         }
         below = tag;

@@ -91,11 +91,10 @@ pub fn no_pair() -> Pair
 }
 
 // No attribute in any of the 16 places.
-pub fn clear(pairs: &mut [Pair])
-    requires { length pairs.old ≡ 16 }
+pub fn clear(pairs: &mut [Pair; 16])
     ensures { pairs_of pairs.new ≡ no_pairs }
 {
-    pairs.fill(no_pair());
+    *pairs = [no_pair(); 16];
 }
 
 // How many of an event's 16 places a loop goes through. It is computed before the loop, since the compiler writes a loop to 16, with an exit at the count, out

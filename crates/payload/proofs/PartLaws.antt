@@ -12,17 +12,15 @@ use lib.Seq.{drop-drop, take_all}
 use borrow.Author.Tests.{eq-eqb, ne_eqb, le-leb}
 use Rattle.definition.specs.Text.{quoted, generated_name}
 use Rattle.definition.specs.Elements.{names_state}
-use Rattle.definition.specs.Look.{Load, payload, text_loads, name_loads, is_generated, text_charge}
+use Rattle.definition.specs.Codes.{kind_number, tag_number}
+use Rattle.definition.specs.Look.{Load, payload, text_loads, name_loads, is_generated, has_load, text_charge}
 use Rattle.words.proofs.Laws.{by}
 use Rattle.written.specs.Written.{written, written_length}
 use Rattle.written.proofs.GeneratedLaw.{made_length, made_fits}
 use Rattle.plain.specs.declared.Plain.{Plain}
-use Rattle.plain.specs.declared.Keyed.{Keyed}
 use Rattle.plain.specs.Plain.{Parsed, slot_bytes, loads_in, parsed_in, text_if}
 use Rattle.payload.specs.Laid.{laid}
 use Rattle.payload.proofs.Laws.{laid_behind, laid_nothing, laid_length}
-use Rattle.plain.specs.Keyed.{keyed_of, is_marked}
-use Rattle.plain.proofs.ValueLaws.{marked_has}
 use Rattle.payload.specs.Payload.{text_bytes, made_in, all_loads, payload_in, charge_in, ends_in}
 
 -- ---- written into what is left
@@ -69,35 +67,35 @@ module _ (src : List ℕ) (p : Plain) where
   abbrev text : Option (List ℕ)
   text = (parsed_in src p).text
 
-  text_no : (p.kind ≡ 2 → ⊥) → text ≡ none
+  text_no : ((kind_number p.kind) ≡ 2 → ⊥) → text ≡ none
   unfolding parsed_in text_if
-  text_no h = rw (ne_eqb p.kind 2 h, text_if)
+  text_no h = rw (ne_eqb (kind_number p.kind) 2 h, text_if)
 
-  pub text_none : (p.kind ≡ 2 → ⊥) → payload (text_loads p.tag text) ≡ []
+  pub text_none : ((kind_number p.kind) ≡ 2 → ⊥) → payload (text_loads (tag_number p.tag) text) ≡ []
   unfolding text_loads payload
-  text_none h = ap (λ (o : Option (List ℕ)). payload (text_loads p.tag o)) (text_no h)
+  text_none h = ap (λ (o : Option (List ℕ)). payload (text_loads (tag_number p.tag) o)) (text_no h)
 
-  pub charge_none : (p.kind ≡ 2 → ⊥) → 0 ≡ text_charge p.tag text
+  pub charge_none : ((kind_number p.kind) ≡ 2 → ⊥) → 0 ≡ text_charge (tag_number p.tag) text
   unfolding text_charge
-  charge_none h = sym (ap (text_charge p.tag) (text_no h))
+  charge_none h = sym (ap (text_charge (tag_number p.tag)) (text_no h))
 
-  module _ (h : p.kind ≡ 2) (v : List ℕ) (ev : v ≡ slot_bytes src p.text) where
+  module _ (h : (kind_number p.kind) ≡ 2) (v : List ℕ) (ev : v ≡ slot_bytes src p.text) where
     text_is : text ≡ some v
     unfolding parsed_in text_if
     text_is =
-        let y : text ≡ some (slot_bytes src p.text) = rw (eq-eqb p.kind 2 h, text_if) in
+        let y : text ≡ some (slot_bytes src p.text) = rw (eq-eqb (kind_number p.kind) 2 h, text_if) in
         y ∙ ap some (sym ev)
 
-    pub text_some : payload (text_loads p.tag text) ≡ text_bytes p.tag v
-    text_some = ap (λ (o : Option (List ℕ)). payload (text_loads p.tag o)) text_is ∙ text_bytes_lem p.tag v
+    pub text_some : payload (text_loads (tag_number p.tag) text) ≡ text_bytes (tag_number p.tag) v
+    text_some = ap (λ (o : Option (List ℕ)). payload (text_loads (tag_number p.tag) o)) text_is ∙ text_bytes_lem (tag_number p.tag) v
 
-    pub charge_quoted : p.tag ≡ 23 → length v + length v + 2 ≡ text_charge p.tag text
+    pub charge_quoted : (tag_number p.tag) ≡ 23 → length v + length v + 2 ≡ text_charge (tag_number p.tag) text
     unfolding text_charge
-    charge_quoted e = sym (ap (text_charge p.tag) text_is ∙ rw (eq-eqb p.tag 23 e, text_charge))
+    charge_quoted e = sym (ap (text_charge (tag_number p.tag)) text_is ∙ rw (eq-eqb (tag_number p.tag) 23 e, text_charge))
 
-    pub charge_plain : (p.tag ≡ 23 → ⊥) → length v ≡ text_charge p.tag text
+    pub charge_plain : ((tag_number p.tag) ≡ 23 → ⊥) → length v ≡ text_charge (tag_number p.tag) text
     unfolding text_charge
-    charge_plain e = sym (ap (text_charge p.tag) text_is ∙ rw (ne_eqb p.tag 23 e, text_charge))
+    charge_plain e = sym (ap (text_charge (tag_number p.tag)) text_is ∙ rw (ne_eqb (tag_number p.tag) 23 e, text_charge))
 
 module _ (made : Bool) (n : ℕ) where
   pub name_some : made ≡ true → payload (name_loads made (suc n)) ≡ generated_name (n + 1)
@@ -122,17 +120,17 @@ name_long made n e out room k ek = (made_length (n + 1) out room k ek ∙ sym (a
 -- ---- whether a name is made
 
 module _ (src : List ℕ) (p : Plain) where
-  pub made_never : p.kind ≡ 3 → false ≡ made_in (parsed_in src p)
+  pub made_never : (kind_number p.kind) ≡ 3 → false ≡ made_in (parsed_in src p)
   unfolding made_in is_generated parsed_in
-  made_never e = rw (eq-eqb p.kind 3 e)
+  made_never e = rw (eq-eqb (kind_number p.kind) 3 e)
 
-  pub made_unnamed : ¬ (p.kind ≡ 3) → false ≡ names_state p.tag → false ≡ made_in (parsed_in src p)
+  pub made_unnamed : ¬ ((kind_number p.kind) ≡ 3) → false ≡ names_state (tag_number p.tag) → false ≡ made_in (parsed_in src p)
   unfolding made_in is_generated parsed_in
-  made_unnamed e f = rw (ne_eqb p.kind 3 e, ← f)
+  made_unnamed e f = rw (ne_eqb (kind_number p.kind) 3 e, ← f)
 
-  pub made_without : (ix : Keyed) → ix ≡ keyed_of (take p.count p.slots) → ¬ (p.kind ≡ 3) → true ≡ names_state p.tag → (given : Bool) → given ≡ is_marked ix 1 → not given ≡ made_in (parsed_in src p)
+  pub made_without : ¬ ((kind_number p.kind) ≡ 3) → true ≡ names_state (tag_number p.tag) → (given : Bool) → given ≡ has_load 1 (loads_in src (take p.count p.slots)) → not given ≡ made_in (parsed_in src p)
   unfolding made_in is_generated parsed_in
-  made_without ix h e f given g = rw (ne_eqb p.kind 3 e, ← f) (ap not (marked_has src 1 (omega arith) (take p.count p.slots) ix h given g))
+  made_without e f given g = rw (ne_eqb (kind_number p.kind) 3 e, ← f) (ap not g)
 
 -- ---- all of it
 
@@ -146,7 +144,7 @@ module _ (src : List ℕ) (p : Plain) (made : Bool) (n : ℕ) (em : made ≡ mad
   A = payload (loads_in src (take p.count p.slots))
 
   abbrev B : List ℕ
-  B = payload (text_loads p.tag (parsed_in src p).text)
+  B = payload (text_loads (tag_number p.tag) (parsed_in src p).text)
 
   abbrev C : List ℕ
   C = payload (name_loads made (suc n))
@@ -161,7 +159,7 @@ module _ (src : List ℕ) (p : Plain) (made : Bool) (n : ℕ) (em : made ≡ mad
   sizes : length (payload_in (parsed_in src p) n) ≡ length A + length B + length C
   sizes = ap length payload_is ∙ length-append (A ++ B) C ∙ ap (λ (k : ℕ). k + length C) (length-append A B)
 
-  pub charge_is : (x y z : ℕ) → x ≡ length A → y ≡ text_charge p.tag (parsed_in src p).text → z ≡ length C → x + y + z ≡ charge_in (parsed_in src p) n
+  pub charge_is : (x y z : ℕ) → x ≡ length A → y ≡ text_charge (tag_number p.tag) (parsed_in src p).text → z ≡ length C → x + y + z ≡ charge_in (parsed_in src p) n
   unfolding charge_in parsed_in
   charge_is x y z ex ey ez = ap₂ ◌+◌ (ap₂ ◌+◌ ex ey) (ez ∙ ap (λ (b : Bool). length (payload (name_loads b (suc n)))) em)
 

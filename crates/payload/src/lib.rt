@@ -4,16 +4,17 @@
 
 ghost use Rattle.std.specs.Prelude.{◌≡◌, ◌+◌, ◌≤◌, suc, ◌<◌, length};
 ghost use Rattle.definition.specs.Limits.{limits01};
+ghost use Rattle.definition.specs.Codes.{tag_number};
 ghost use Rattle.definition.specs.Look.{payload, text_loads, name_loads, text_charge};
 ghost use Rattle.plain.specs.Plain.{slots_of, loads_in, parsed_in};
 ghost use Rattle.payload.specs.Laid.{laid};
 ghost use Rattle.definition.specs.Text.{quoted, generated_name};
-ghost use Rattle.plain.specs.Keyed.{keyed_of};
 ghost use Rattle.payload.specs.Payload.{text_bytes, made_in, payload_in, charge_in, ends_in};
 
 use definition::codes::{Key, Kind, Tag};
 use nesting::names_state;
-use plain::{Keyed, Plain, Slot, bytes_of, has};
+use plain::indexed::Indexed;
+use plain::{Plain, Slot, bytes_of};
 use written::{put_generated, put_quoted};
 
 #[tactic(auto, unfolding(crate::specs::Laid::laid))]
@@ -65,12 +66,12 @@ fn put_name_at(text: &mut [u8], pos: usize, number: u32) -> usize
 }
 
 // An assign's text in its quoted form.
-fn put_text(text: &mut [u8], pos: usize, tag: u32, v: &[u8]) -> usize
-    requires { pos + length (text_bytes tag v.now) ≤ length text.old }
-    ensures value { result ≡ pos + length (text_bytes tag v.now) }
-    ensures text_after { text.new ≡ laid text.old pos (text_bytes tag v.now) }
+fn put_text(text: &mut [u8], pos: usize, tag: Tag, v: &[u8]) -> usize
+    requires { pos + length (text_bytes (tag_number tag) v.now) ≤ length text.old }
+    ensures value { result ≡ pos + length (text_bytes (tag_number tag) v.now) }
+    ensures text_after { text.new ≡ laid text.old pos (text_bytes (tag_number tag) v.now) }
 {
-    if tag == Tag::ASSIGN {
+    if tag == Tag::Assign {
         return put_quoted_at(text, pos, v);
     }
     put_bytes(text, pos, v);
@@ -78,11 +79,11 @@ fn put_text(text: &mut [u8], pos: usize, tag: u32, v: &[u8]) -> usize
 }
 
 fn append_text(text: &mut [u8], pos: usize, src: &[u8], p: Plain) -> usize
-    requires { pos + length (payload (text_loads p.tag (parsed_in src.now p).text)) ≤ length text.old }
-    ensures value { result ≡ pos + length (payload (text_loads p.tag (parsed_in src.now p).text)) }
-    ensures text_after { text.new ≡ laid text.old pos (payload (text_loads p.tag (parsed_in src.now p).text)) }
+    requires { pos + length (payload (text_loads (tag_number p.tag) (parsed_in src.now p).text)) ≤ length text.old }
+    ensures value { result ≡ pos + length (payload (text_loads (tag_number p.tag) (parsed_in src.now p).text)) }
+    ensures text_after { text.new ≡ laid text.old pos (payload (text_loads (tag_number p.tag) (parsed_in src.now p).text)) }
 {
-    if p.kind != Kind::WHOLE {
+    if p.kind != Kind::Whole {
         return pos;
     }
     put_text(text, pos, p.tag, bytes_of(src, p.text))
@@ -100,14 +101,13 @@ fn append_name(text: &mut [u8], pos: usize, made: bool, drawn: u32) -> usize
 }
 
 // Whether the event draws a name.
-pub fn is_made(src: &[u8], p: Plain, ix: Keyed) -> bool
-    requires { ix ≡ keyed_of (slots_of p) }
-    ensures { result ≡ made_in (parsed_in src.now p) }
+pub fn is_made(event: &Indexed<'_>) -> bool
+    ensures { result ≡ made_in (parsed_in event.now.src.now event.now.plain) }
 {
-    if p.kind == Kind::END {
+    if event.plain.kind == Kind::End {
         return false;
     }
-    names_state(p.tag) && !has(ix, Key::ID)
+    names_state(event.plain.tag.number()) && !event.has(Key::Id)
 }
 
 // Where the values, the text and a generated name end.
@@ -143,14 +143,14 @@ pub fn append_event(
 
 // "texts (assign: twice and two more)"
 fn text_charge(src: &[u8], p: Plain) -> usize
-    ensures value { result ≡ text_charge p.tag (parsed_in src.now p).text }
+    ensures value { result ≡ text_charge (tag_number p.tag) (parsed_in src.now p).text }
     ensures upper_bound { result ≤ 131072 }
 {
-    if p.kind != Kind::WHOLE {
+    if p.kind != Kind::Whole {
         return 0;
     }
     let v = bytes_of(src, p.text);
-    if p.tag == Tag::ASSIGN {
+    if p.tag == Tag::Assign {
         return 2 * v.len() + 2;
     }
     v.len()
@@ -167,12 +167,10 @@ fn name_charge(made: bool, drawn: u32) -> usize
     put_generated(&mut [0u8; 24], drawn + 1)
 }
 
-// `values`: how long all values are together.
-pub fn charge(src: &[u8], p: Plain, values: usize, made: bool, drawn: u32) -> usize
-    requires drawn_le_drawn { (drawn ≤ limits01.drawn) × (made ≡ made_in (parsed_in src.now p)) }
-    requires values_value { (values ≡ length (payload (loads_in src.now (slots_of p)))) × (values ≤ 1048576) }
-    ensures value { result ≡ charge_in (parsed_in src.now p) drawn }
+pub fn charge(event: &Indexed<'_>, made: bool, drawn: u32) -> usize
+    requires drawn_le_drawn { (drawn ≤ limits01.drawn) × (made ≡ made_in (parsed_in event.now.src.now event.now.plain)) }
+    ensures value { result ≡ charge_in (parsed_in event.now.src.now event.now.plain) drawn }
     ensures upper_bound { result < 2097152 }
 {
-    values + text_charge(src, p) + name_charge(made, drawn)
+    event.total + text_charge(event.src, event.plain) + name_charge(made, drawn)
 }

@@ -6,7 +6,7 @@ use Prim.Native.Nat.{ℕ, zero, suc, ◌+◌, ◌-◌, ◌≤◌, ◌<◌}
 use native.Mathlib.Omega.{arith}
 use lib.Dec.{eqb}
 use lib.ListN.{length, get_or, take, drop, length-append, length-drop, take-append-drop}
-use lib.Seq.{length-take-le, drop-cons, take-suc, get_or-drop, drop-drop}
+use lib.Seq.{drop-cons, take-suc, get_or-drop, drop-drop}
 use borrow.Author.Tests.{eqb-true}
 use Rattle.definition.specs.Text.{str}
 use Rattle.definition.specs.Event.{after, begins_event, flush, cut, events_of}
@@ -159,21 +159,21 @@ one_more_lem : (l : List ℕ) → 0 < length l → length (events_of l) ≡ suc 
 one_more_lem [] h = absurd (omega arith)
 one_more_lem (b ∷ l) h = ap length (events_by_length b l)
 
--- `at` begins an event, `before` events stand before it, and `next` is where it ends
-abbrev pub Walked : List ℕ → ℕ → ℕ → ℕ → Type 0
-Walked s at before next =
-    (at ≤ length s) × ((before ≤ at) × (EventsAt s at × ((before + length (events_of (drop at s)) ≡ length (events_of s)) × (next ≡ at + event_length (drop at s)))))
+-- `at` begins an event, and `before` events stand before it
+abbrev pub Walked : List ℕ → ℕ → ℕ → Type 0
+Walked s at before =
+    (at ≤ length s) × ((before ≤ at) × (EventsAt s at × (before + length (events_of (drop at s)) ≡ length (events_of s))))
 
-pub walk_begins : (s : List ℕ) (next : ℕ) → next ≡ 0 + event_length (drop 0 s) → Walked s 0 0 next
-walk_begins s next e = (omega arith, (omega arith, (parts_none s, (omega arith, e))))
+pub walk_begins : (s : List ℕ) → Walked s 0 0
+walk_begins s = (omega arith, (omega arith, (parts_none s, omega arith)))
 
-module _ (s : List ℕ) (next : ℕ) where
-  pub walk_less : (next' : ℕ) → next < length s → next' ≡ next + event_length (drop next s) → next < next'
-  walk_less next' h e = omega (arith, event_some (drop next s) (omega (arith, length-drop next s)))
+module _ (s : List ℕ) (at : ℕ) where
+  pub walk_less : (next : ℕ) → next < length s → next ≡ at + event_length (drop at s) → at < next
+  walk_less next h e = omega (arith, event_some (drop at s) (omega (arith, length-drop at s)))
 
-  module _ (at before : ℕ) (w : Walked s at before next) where
-    pub walk_on : (next' : ℕ) → next < length s → next' ≡ next + event_length (drop next s) → Walked s next (before + 1) next'
-    walk_on next' h e = (omega arith, (omega (arith, some), (parts_at s next (omega (arith, some)) h byte head, (counts, e))))
+  module _ (before : ℕ) (w : Walked s at before) where
+    pub walk_on : (next : ℕ) → next < length s → next ≡ at + event_length (drop at s) → Walked s next (before + 1)
+    walk_on next h e = (omega arith, (omega (arith, some), (parts_at s next (omega (arith, some)) h byte head, counts)))
       where
         l : List ℕ
         l = drop at s
@@ -194,7 +194,7 @@ module _ (s : List ℕ) (next : ℕ) where
         byte = ap (λ (n : ℕ). get_or s n 0) (sym place) ∙ sym (get_or-drop at s (event_length l - 1) 0) ∙ ended.0
 
         onward : drop (event_length l) l ≡ drop next s
-        onward = drop-drop (event_length l) at s ∙ ap (λ (n : ℕ). drop n s) (sym w.1.1.1.1)
+        onward = drop-drop (event_length l) at s ∙ ap (λ (n : ℕ). drop n s) (sym e)
 
         head : begins_event (drop next s) ≡ true
         head = subst (λ (x : List ℕ). begins_event x ≡ true) onward ended.1
@@ -215,8 +215,3 @@ module _ (s : List ℕ) (next : ℕ) where
             ap (λ (x : List ℕ). length (events_of x)) (sym (append-nil s)) ∙ ap length (w.1.1.0 [])
             ∙ length-append (events_of (take at s)) (events_of (drop at s ++ []))
             ∙ ap (λ (x : List ℕ). length (events_of (take at s)) + length (events_of x)) (append-nil (drop at s))
-
--- ---- a piece of what a buffer holds lies in the buffer
-
-pub end_fits : (held end : ℕ) (b : List ℕ) → held ≤ length b → end ≤ length (take held b) → end ≤ length b
-end_fits held end b h k = omega (arith, length-take-le held b h)

@@ -2,10 +2,13 @@
 
 #![tactic(auto)]
 
-ghost use Rattle.std.specs.Prelude.{◌-◌, ◌≤◌, length, take, drop, ◌≡◌};
+ghost use Rattle.std.specs.Prelude.{◌-◌, ◌+◌, ◌≤◌, ◌<◌, length, take, drop, ◌≡◌, MatchOption, IfOk};
+ghost use Rattle.lines.specs.Lines.{event_length};
 ghost use Rattle.pieces.specs.Pieces.{Parted};
+ghost use Rattle.pieces.specs.Windows.{SameBuffer};
 
 use lines::next_event;
+use std::io;
 use std::io::{Read, Stdin};
 
 // Where a stream's last event begins, and how many events stand before it.
@@ -15,137 +18,112 @@ struct Last {
     before: u64,
 }
 
+// Where the event behind the one at `at` begins.
+fn event_after(stream: &[u8], at: usize) -> Option<usize>
+    ensures { MatchOption result (length stream.now ≤ at + event_length (drop at stream.now)) (λ next. (next < length stream.now) × (next ≡ at + event_length (drop at stream.now))) }
+{
+    let next = next_event(stream, at);
+    (next < stream.len()).then_some(next)
+}
+
 fn last_event(stream: &[u8]) -> Last
     ensures { Parted stream.now result.at result.before }
 {
-    let mut at = 0;
-    let mut before = 0;
-    let mut next = next_event(stream, 0);
-    while next < stream.len() {
-        at = next;
-        before += 1;
-        next = next_event(stream, at);
+    let mut last = Last { at: 0, before: 0 };
+    while let Some(at) = event_after(stream, last.at) {
+        last = Last {
+            at,
+            before: last.before + 1,
+        };
     }
-    Last { at, before }
+    last
 }
 
-// The bytes from one place to another, moved to the front.
-fn move_to_front(bytes: &mut [u8], from: usize, to: usize)
-    requires { (from ≤ to) × (to ≤ length bytes.old) }
-    ensures { take (to - from) bytes.new ≡ take (to - from) (drop from bytes.old) }
-{
-    bytes.copy_within(from..to, 0);
+/// A lent buffer: how many of its bytes hold input, and how many of these are fed.
+#[derive(Drop)]
+pub struct Window<'a> {
+    pub buffer: &'a mut [u8],
+    pub held: usize,
+    pub done: usize,
 }
 
-// What was read: how many bytes the buffer holds now, and whether the input ended or could not be read.
-#[derive(Clone, Copy)]
-struct Input {
-    held: usize,
-    ended: bool,
-    failed: bool,
-}
-
-fn read_once(mut source: Stdin, buffer: &mut [u8], held: usize) -> Input
-    requires { held ≤ length buffer.old }
-    ensures { result.held ≤ length buffer.new }
-{
-    match source.read(&mut buffer[held..]) {
-        Ok(n) => Input {
-            held: held + n,
-            ended: n == 0,
-            failed: false,
-        },
-        Err(_) => Input {
-            held,
-            ended: true,
-            failed: true,
-        },
-    }
-}
-
-// Reads until the buffer is full, the input ends or a read fails.
-fn fill(source: Stdin, buffer: &mut [u8], held: usize) -> Input
-    ensures { result.held ≤ length buffer.new }
-{
-    let mut input = Input {
-        held,
-        ended: false,
-        failed: false,
-    };
-    while input.held < buffer.len() {
-        let before = input.held;
-        input = read_once(source, buffer, before);
-        if input.held <= before {
-            return input;
-        }
-    }
-    Input {
-        held: buffer.len(),
-        ended: false,
-        failed: false,
-    }
-}
-
-/// What is fed next: the buffer's first bytes up to `end`, with so many events where all are accepted; the buffer holds `held` bytes.
+/// What is fed next: the buffer's first bytes up to `end`, with so many events where all are accepted; or all that is left, where the input ended.
 #[derive(Clone, Copy)]
 pub struct Piece {
     pub end: usize,
-    pub events: u64,
-    pub held: usize,
-    pub ended: bool,
-    pub failed: bool,
+    pub events: Option<u64>,
 }
 
-// Where the input ended, all that is held is fed. Otherwise the last event may go on and is kept back; one that fills the buffer is longer than any that the
-// reader takes. After a read that failed nothing is fed.
-fn cut(bytes: &[u8], input: Input) -> Piece
-    ensures { result.end ≤ length bytes.now }
-{
-    let nothing = Piece {
-        end: 0,
-        events: 0,
-        held: input.held,
-        ended: input.ended,
-        failed: input.failed,
-    };
-    if input.failed {
-        return nothing;
-    }
-    if input.ended {
-        return Piece {
-            end: bytes.len(),
-            ..nothing
-        };
-    }
-    let last = last_event(bytes);
-    if last.at == 0 {
-        return Piece {
-            end: bytes.len(),
-            events: 1,
-            ..nothing
-        };
-    }
-    Piece {
-        end: last.at,
-        events: last.before,
-        ..nothing
+impl<'a> Window<'a> {
+    pub fn new(buffer: &'a mut [u8]) -> Window<'a>
+        ensures same_loan { result.buffer.ghost_name ≡ buffer.entry.ghost_name }
+        ensures same_bytes { result.buffer.now ≡ buffer.old }
+        ensures empty { (result.held ≡ 0) × (result.done ≡ 0) }
+    {
+        Window {
+            buffer,
+            held: 0,
+            done: 0,
+        }
     }
 }
 
-// What is held and not fed yet, moved to the front; how much it is.
-fn keep(buffer: &mut [u8], done: usize, held: usize) -> usize {
-    if held < done || buffer.len() < held {
-        return 0;
+impl Window<'_> {
+    // What is held and not fed yet, moved to the front.
+    fn drop_fed(&mut self)
+        ensures same { SameBuffer self.old self.new }
+        ensures within { self.new.held ≤ length self.new.buffer.now }
+        ensures kept { self.old.done ≤ self.old.held → self.old.held ≤ length self.old.buffer.now → take self.new.held self.new.buffer.now ≡ take self.new.held (drop self.old.done self.old.buffer.now) }
+    {
+        if self.held < self.done || self.buffer.len() < self.held {
+            self.held = 0;
+            return;
+        }
+        self.buffer.copy_within(self.done..self.held, 0);
+        self.held -= self.done;
     }
-    move_to_front(buffer, done, held);
-    held - done
-}
 
-/// The next piece of standard input, behind the first `done` of the `held` bytes in the buffer.
-pub fn next_piece(source: Stdin, buffer: &mut [u8], done: usize, held: usize) -> Piece
-    ensures { result.end ≤ length buffer.new }
-{
-    let kept = keep(buffer, done, held);
-    let input = fill(source, buffer, kept);
-    cut(&buffer[..input.held], input)
+    // Reads until the buffer is full or the input ends; whether it ended. A loop with a condition, since a read may bring any number of bytes.
+    fn fill(&mut self, mut source: Stdin) -> io::Result<bool>
+        requires { self.old.held ≤ length self.old.buffer.now }
+        ensures same { SameBuffer self.old self.new }
+        ensures within { self.new.held ≤ length self.new.buffer.now }
+    {
+        while self.held < self.buffer.len() {
+            let n = source.read(&mut self.buffer[self.held..])?;
+            if n == 0 {
+                return Ok(true);
+            }
+            self.held += n;
+        }
+        Ok(false)
+    }
+
+    /// The next piece of standard input. Where the input ended, all that is held is fed. Otherwise the last event may go on and is kept back; one that fills
+    /// the buffer is longer than any that the reader takes.
+    pub fn next_piece(&mut self, source: Stdin) -> io::Result<Piece>
+        ensures same { SameBuffer self.old self.new }
+        ensures within { IfOk result (λ piece. piece.end ≤ length self.new.buffer.now) }
+    {
+        self.drop_fed();
+        let ended = self.fill(source)?;
+        let held = self.held;
+        if ended {
+            return Ok(Piece {
+                end: held,
+                events: None,
+            });
+        }
+        let last = last_event(&self.buffer[..held]);
+        if last.at == 0 {
+            return Ok(Piece {
+                end: held,
+                events: Some(1),
+            });
+        }
+        Ok(Piece {
+            end: last.at,
+            events: Some(last.before),
+        })
+    }
 }

@@ -9,6 +9,11 @@ use lib.Dec.{eqb}
 use lib.ListN.{length, get_or, set, take, drop, length-append, length-drop, length-set, take-append-drop, drop_of_length-le}
 use lib.Seq.{length-take-le, take_all, take_at, drop_at, drop-drop, take-append_seam, take-suc, take-suc-set}
 use borrow.Author.Tests.{le-leb, eq-eqb, ne_eqb}
+use Rattle.std.specs.Prelude.{Option as Maybe, None}
+use Rattle.definition.specs.declared.codes.Key.{Key}
+use Rattle.definition.specs.declared.codes.Kind.{Kind}
+use Rattle.definition.specs.declared.codes.Tag.{Tag}
+use Rattle.definition.specs.Codes.{kind_number, tag_number, key_code}
 use Rattle.definition.specs.Event.{legible}
 use Rattle.definition.specs.Look.{Load}
 use Rattle.lines.specs.Escapes.{placed, fitting, length_of}
@@ -104,7 +109,7 @@ module _ (out : List ℕ) (pos : ℕ) (v : List ℕ) (fits : pos + length v ≤ 
       ∙ append_assoc (take pos out) v q
 
   -- the part itself
-  pub laid_here : (k : ℕ) (q : List ℕ) → slot_bytes (take pos out ++ (v ++ q)) (record { code = k; at = pos; len = pos + length v - pos }) ≡ v
+  pub laid_here : (k : Maybe Key) (q : List ℕ) → slot_bytes (take pos out ++ (v ++ q)) (record { code = k; at = pos; len = pos + length v - pos }) ≡ v
   unfolding part
   laid_here k q =
       let e : pos + length v - pos ≡ length v = omega arith in
@@ -130,14 +135,14 @@ module _ (out : List ℕ) (pos : ℕ) (v out' : List ℕ) (end : ℕ) (l : Laid 
   pub stays : (s : Slot) (x : List ℕ) → Stands out pos s x → Stands out' end s x
   stays s x h q = ap (λ (o : List ℕ). slot_bytes o s) (now_front q) ∙ h (v ++ q)
 
-  pub stands : (k : ℕ) (s : Slot) → s ≡ record { code = k; at = pos; len = end - pos } → Stands out' end s v
+  pub stands : (k : Maybe Key) (s : Slot) → s ≡ record { code = k; at = pos; len = end - pos } → Stands out' end s v
   stands k s e q =
       ap₂ slot_bytes (now_front q) (e ∙ ap (λ (n : ℕ). record { code = k; at = pos; len = n - pos }) l.ends) ∙ laid_here out pos v l.fits k q
 
 pub loads_append : (src : List ℕ) (xs ys : List Slot) → loads_in src (xs ++ ys) ≡ loads_in src xs ++ loads_in src ys
 unfolding loads_in
 loads_append src [] ys = refl
-loads_append src (x ∷ xs) ys = ap (λ (is : List Load). record { key = x.code; bytes = slot_bytes src x } ∷ is) (loads_append src xs ys)
+loads_append src (x ∷ xs) ys = ap (λ (is : List Load). record { key = key_code x.code; bytes = slot_bytes src x } ∷ is) (loads_append src xs ys)
 
 read_append : (raw : List ℕ) (ps qs : List Pair) → read_loads raw (ps ++ qs) ≡ read_loads raw ps ++ read_loads raw qs
 unfolding read_loads
@@ -182,9 +187,9 @@ module _ (raw : List ℕ) (ps : List Pair) (c : ℕ) (many : length ps ≡ 16) (
       pub copy_small : (end : ℕ) → end ≡ pos + length v → (pos ≤ end) × (end < 65536)
       copy_small end e = (omega (arith, e), omega (arith, e, copy_fits, K.long, K.short))
 
-      pub copying_more : (out' : List ℕ) (end : ℕ) (s : Slot) → out' ≡ laid out pos v → end ≡ pos + length v → s ≡ record { code = p.code; at = pos; len = end - pos }
+      pub copying_more : (out' : List ℕ) (end : ℕ) (s : Slot) (k : Maybe Key) → key_code k ≡ p.code → out' ≡ laid out pos v → end ≡ pos + length v → s ≡ record { code = k; at = pos; len = end - pos }
           → Copying raw ps c size a b x y out' (set slots i s) end (i + 1)
-      copying_more out' end s eo ee es =
+      copying_more out' end s k ek eo ee es =
           let l : Laid out pos v out' end = record { fits = copy_fits; all = eo; ends = ee } in
           record {
             short = K.short;
@@ -206,7 +211,7 @@ module _ (raw : List ℕ) (ps : List Pair) (c : ℕ) (many : length ps ≡ 16) (
           last : (q : List ℕ) → Laid out pos v out' end → loads_in (take end out' ++ q) (s ∷ []) ≡ read_loads raw (p ∷ [])
           last q l =
               unfold loads_in read_loads in
-              λ j. record { key = ap (λ (z : Slot). z.code) es j; bytes = stands out pos v out' end l p.code s es q j } ∷ []
+              λ j. record { key = (ap (λ (z : Slot). key_code z.code) es ∙ ek) j; bytes = stands out pos v out' end l k s es q j } ∷ []
 
 -- ---- a text only where there is one
 
@@ -240,7 +245,7 @@ module _ (raw : List ℕ) (d : Described) (out : List ℕ) (sp : Space raw d (le
   pub text_fits_lem : first + length (read raw tp) ≤ length out₁
   text_fits_lem = omega (arith, f₁, fits_now, now_length out 0 (read raw d.name) out₁ first one)
 
-  module _ (a : Slot) (ea : a ≡ record { code = 0; at = 0; len = first - 0 }) (out₂ : List ℕ) (second : ℕ) (o₂ : out₂ ≡ laid out₁ first (read raw tp)) (f₂ : second ≡ first + length (read raw tp)) where
+  module _ (a : Slot) (ea : a ≡ record { code = None; at = 0; len = first - 0 }) (out₂ : List ℕ) (second : ℕ) (o₂ : out₂ ≡ laid out₁ first (read raw tp)) (f₂ : second ≡ first + length (read raw tp)) where
     two : Laid out₁ first (read raw tp) out₂ second
     two = record { fits = text_fits_lem; all = o₂; ends = f₂ }
 
@@ -250,12 +255,12 @@ module _ (raw : List ℕ) (d : Described) (out : List ℕ) (sp : Space raw d (le
     same_size : length out₂ ≡ length out
     same_size = now_length out₁ first (read raw tp) out₂ second two ∙ now_length out 0 (read raw d.name) out₁ first one
 
-    module _ (b : Slot) (eb : b ≡ record { code = 0; at = first; len = second - first }) where
+    module _ (b : Slot) (eb : b ≡ record { code = None; at = first; len = second - first }) where
       name_there : Stands out₂ second a (read raw d.name)
-      name_there = stays out₁ first (read raw tp) out₂ second two a (read raw d.name) (stands out 0 (read raw d.name) out₁ first one 0 a ea)
+      name_there = stays out₁ first (read raw tp) out₂ second two a (read raw d.name) (stands out 0 (read raw d.name) out₁ first one None a ea)
 
       text_there : Stands out₂ second b (read raw tp)
-      text_there = stands out₁ first (read raw tp) out₂ second two 0 b eb
+      text_there = stands out₁ first (read raw tp) out₂ second two None b eb
 
       pub copying_start : (slots : List Slot) → length slots ≡ 16
           → Copying raw d.pairs d.count (length out₂) a b (slot_bytes out₂ a) (slot_bytes out₂ b) out₂ slots second 0
@@ -275,11 +280,12 @@ module _ (raw : List ℕ) (d : Described) (out : List ℕ) (sp : Space raw d (le
       -- all of it, after the loop
       pub parsed_all : (out₃ : List ℕ) (slots : List Slot) (pos i : ℕ) → Copying raw d.pairs d.count (length out₂) a b (slot_bytes out₂ a) (slot_bytes out₂ b) out₃ slots pos i
           → loads_in out₃ (take d.count slots) ≡ read_loads raw (take d.count d.pairs)
-          → parsed_in out₃ (record { kind = d.kind; tag = d.tag; count = d.count; name = a; text = b; slots = slots }) ≡ parsed_raw raw d
+          → (k : Kind) → kind_number k ≡ d.kind → (g : Tag) → tag_number g ≡ d.tag
+          → parsed_in out₃ (record { kind = k; tag = g; count = d.count; name = a; text = b; slots = slots }) ≡ parsed_raw raw d
       unfolding parsed_in parsed_raw
-      parsed_all out₃ slots pos i K e =
-          parsed_eq refl refl (stands_now out₃ pos a (slot_bytes out₂ a) K.one ∙ stands_now out₂ second a (read raw d.name) name_there) e
-          (ap (text_if d.kind) (stands_now out₃ pos b (slot_bytes out₂ b) K.two ∙ stands_now out₂ second b (read raw tp) text_there ∙ ap (read raw) et) ∙ text_part_lem raw d.kind d.text)
+      parsed_all out₃ slots pos i K e k ek g eg =
+          parsed_eq ek eg (stands_now out₃ pos a (slot_bytes out₂ a) K.one ∙ stands_now out₂ second a (read raw d.name) name_there) e
+          (ap (λ (n : ℕ). text_if n (slot_bytes out₃ b)) ek ∙ ap (text_if d.kind) (stands_now out₃ pos b (slot_bytes out₂ b) K.two ∙ stands_now out₂ second b (read raw tp) text_there ∙ ap (read raw) et) ∙ text_part_lem raw d.kind d.text)
 
       pub size_end : (out₃ : List ℕ) (slots : List Slot) (pos i : ℕ) → Copying raw d.pairs d.count (length out₂) a b (slot_bytes out₂ a) (slot_bytes out₂ b) out₃ slots pos i → length out₃ ≡ length out
       size_end out₃ slots pos i K = K.long ∙ same_size

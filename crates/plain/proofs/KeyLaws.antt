@@ -7,7 +7,11 @@ use native.Mathlib.Omega.{arith}
 use lib.Dec.{eqb, ltb}
 use lib.ListN.{length, get_or, set, take, drop, replicate, length-set, length-append, get_or-replicate}
 use lib.Seq.{get_or-set_same, get_or-set_other}
-use borrow.Author.Tests.{eqb-true, eqb-false, ltb-true, ltb-false, lt-ltb, le-ltb}
+use borrow.Author.Tests.{eqb-true, eqb-false, lt-ltb}
+use Rattle.std.specs.Prelude.{Option, Some, None}
+use Rattle.definition.specs.declared.codes.Key.{Key}
+use Rattle.definition.specs.declared.codes.Key.TheVariants as Y
+use Rattle.definition.specs.Codes.{key_code}
 use Rattle.definition.specs.Look.{payload}
 use Rattle.words.proofs.Laws.{by}
 use Rattle.parts.specs.Parts.{at_most16}
@@ -20,9 +24,40 @@ pub place_low : (k : ℕ) → k < 31 → k ≡ key_place k
 unfolding key_place
 place_low k h = let z : ltb k 31 ≡ true = lt-ltb k 31 h in rw (z, key_place)
 
-pub place_high : (k : ℕ) → 31 ≤ k → 31 ≡ key_place k
-unfolding key_place
-place_high k h = let z : ltb k 31 ≡ false = le-ltb k 31 h in rw (z, key_place)
+-- A key's number is below the last place.
+pub code_low : (k : Option Key) → key_code k < 31
+code_low None = omega arith
+code_low (Some Y.Id) = omega arith
+code_low (Some Y.Initial) = omega arith
+code_low (Some Y.Name) = omega arith
+code_low (Some Y.Datamodel) = omega arith
+code_low (Some Y.Binding) = omega arith
+code_low (Some Y.Version) = omega arith
+code_low (Some Y.Type) = omega arith
+code_low (Some Y.Typeexpr) = omega arith
+code_low (Some Y.Src) = omega arith
+code_low (Some Y.Srcexpr) = omega arith
+code_low (Some Y.Idlocation) = omega arith
+code_low (Some Y.Namelist) = omega arith
+code_low (Some Y.Autoforward) = omega arith
+code_low (Some Y.Event) = omega arith
+code_low (Some Y.Eventexpr) = omega arith
+code_low (Some Y.Cond) = omega arith
+code_low (Some Y.Target) = omega arith
+code_low (Some Y.Targetexpr) = omega arith
+code_low (Some Y.Expr) = omega arith
+code_low (Some Y.Array) = omega arith
+code_low (Some Y.Item) = omega arith
+code_low (Some Y.Index) = omega arith
+code_low (Some Y.Sendid) = omega arith
+code_low (Some Y.Sendidexpr) = omega arith
+code_low (Some Y.Delay) = omega arith
+code_low (Some Y.Delayexpr) = omega arith
+code_low (Some Y.Location) = omega arith
+code_low (Some Y.Label) = omega arith
+
+pub place_is : (k : Option Key) → key_code k ≡ key_place (key_code k)
+place_is k = place_low (key_code k) (code_low k)
 
 -- ---- the loop
 
@@ -39,7 +74,7 @@ module _ (ss : List Slot) (c : ℕ) (long : length ss ≡ 16) where
   unfolding by_key
   key_start f i h = sym (ap (by_key f) (past_most ss c long i h))
 
-  key_more : (f : Slot → ℕ) (xs : List ℕ) (i j : ℕ) → i ≡ j + 1 → j < at_most16 c → xs ≡ by_key f (drop i (take c ss)) → (k : ℕ) → k ≡ key_place (get_or ss j no_slot).code
+  key_more : (f : Slot → ℕ) (xs : List ℕ) (i j : ℕ) → i ≡ j + 1 → j < at_most16 c → xs ≡ by_key f (drop i (take c ss)) → (k : ℕ) → k ≡ key_place (key_code (get_or ss j no_slot).code)
       → set xs k (f (get_or ss j no_slot)) ≡ by_key f (drop j (take c ss))
   unfolding by_key
   key_more f xs i j y few x k e =
@@ -61,7 +96,7 @@ module _ (ss : List Slot) (c : ℕ) (long : length ss ≡ 16) where
         }
 
     module _ (there at len : List ℕ) (total i : ℕ) (x : Indexing src ss c there at len total i) where
-      pub indexing_more : (j : ℕ) → 0 < i → j ≡ i - 1 → (k : ℕ) → k ≡ key_place (get_or ss j no_slot).code → (v : List ℕ) → v ≡ slot_bytes src (get_or ss j no_slot) → length v < 65536
+      pub indexing_more : (j : ℕ) → 0 < i → j ≡ i - 1 → (k : ℕ) → k ≡ key_place (key_code (get_or ss j no_slot).code) → (v : List ℕ) → v ≡ slot_bytes src (get_or ss j no_slot) → length v < 65536
           → Indexing src ss c (set there k 1) (set at k (get_or ss j no_slot).at) (set len k (get_or ss j no_slot).len) (total + length v) j
       unfolding loads_in payload
       indexing_more j h ej k e v ev short =
@@ -94,41 +129,40 @@ module _ (ss : List Slot) (c : ℕ) (long : length ss ≡ 16) where
 key_length : (f : Slot → ℕ) (ss : List Slot) → length (by_key f ss) ≡ 32
 unfolding by_key
 key_length f [] = refl
-key_length f (s ∷ ss) = length-set (by_key f ss) (key_place s.code) (f s) ∙ key_length f ss
+key_length f (s ∷ ss) = length-set (by_key f ss) (key_place (key_code s.code)) (f s) ∙ key_length f ss
 
-module _ (k : ℕ) (low : k < 31) where
-  place_other : (c : ℕ) → eqb c k ≡ false → (k ≡ key_place c → ⊥)
-  place_other c e z =
-      by (ltb c 31) (λ q. eqb-false c k e (place_low c (ltb-true c 31 q) ∙ sym z)) (λ q. absurd (omega (arith, z, place_high c (ltb-false c 31 q))))
+module _ (k : ℕ) (low : k < 32) where
+  place_other : (c : Option Key) → eqb (key_code c) k ≡ false → (k ≡ key_place (key_code c) → ⊥)
+  place_other c e z = eqb-false (key_code c) k e (place_is c ∙ sym z)
 
   nothing : ◌≡◌ {A = ℕ} (get_or (replicate 32 0) k 0) 0
   nothing = get_or-replicate {A = ℕ} 32 k 0 0 (omega (arith, low))
 
   module _ (f : Slot → ℕ) (s : Slot) (ss : List Slot) where
-    key_here : eqb s.code k ≡ true → get_or (by_key f (s ∷ ss)) k 0 ≡ f s
+    key_here : eqb (key_code s.code) k ≡ true → get_or (by_key f (s ∷ ss)) k 0 ≡ f s
     unfolding by_key
     key_here q =
-        let z : key_place s.code ≡ k = ap key_place (eqb-true s.code k q) ∙ sym (place_low k low) in
+        let z : key_place (key_code s.code) ≡ k = sym (place_is s.code) ∙ eqb-true (key_code s.code) k q in
         ap (λ (n : ℕ). get_or (set (by_key f ss) n (f s)) k 0) z ∙ get_or-set_same (by_key f ss) k (f s) 0 (omega (arith, low, key_length f ss))
 
-    key_past : eqb s.code k ≡ false → get_or (by_key f (s ∷ ss)) k 0 ≡ get_or (by_key f ss) k 0
+    key_past : eqb (key_code s.code) k ≡ false → get_or (by_key f (s ∷ ss)) k 0 ≡ get_or (by_key f ss) k 0
     unfolding by_key
-    key_past q = get_or-set_other (by_key f ss) (key_place s.code) k (f s) 0 (place_other s.code q)
+    key_past q = get_or-set_other (by_key f ss) (key_place (key_code s.code)) k (f s) 0 (place_other s.code q)
 
   module _ (s : Slot) (ss : List Slot) where
-    pub slot_here : eqb s.code k ≡ true → slot_for k (s ∷ ss) ≡ s
+    pub slot_here : eqb (key_code s.code) k ≡ true → slot_for k (s ∷ ss) ≡ s
     unfolding slot_for
     slot_here q = rw (q, slot_for)
 
-    pub slot_past : eqb s.code k ≡ false → slot_for k (s ∷ ss) ≡ slot_for k ss
+    pub slot_past : eqb (key_code s.code) k ≡ false → slot_for k (s ∷ ss) ≡ slot_for k ss
     unfolding slot_for
     slot_past q = rw (q, slot_for)
 
-    pub has_here : eqb s.code k ≡ true → has_slot k (s ∷ ss) ≡ true
+    pub has_here : eqb (key_code s.code) k ≡ true → has_slot k (s ∷ ss) ≡ true
     unfolding has_slot
     has_here q = rw (q, has_slot)
 
-    pub has_past : eqb s.code k ≡ false → has_slot k (s ∷ ss) ≡ has_slot k ss
+    pub has_past : eqb (key_code s.code) k ≡ false → has_slot k (s ∷ ss) ≡ has_slot k ss
     unfolding has_slot
     has_past q = rw (q, has_slot)
 
@@ -136,7 +170,7 @@ module _ (k : ℕ) (low : k < 31) where
   unfolding by_key has_slot
   marked_from [] = ap (λ (n : ℕ). not (eqb n 0)) nothing
   marked_from (s ∷ ss) =
-      by (eqb s.code k) (λ q. ap (λ (n : ℕ). not (eqb n 0)) (key_here (λ (s : Slot). 1) s ss q) ∙ sym (has_here s ss q))
+      by (eqb (key_code s.code) k) (λ q. ap (λ (n : ℕ). not (eqb n 0)) (key_here (λ (s : Slot). 1) s ss q) ∙ sym (has_here s ss q))
       (λ q. ap (λ (n : ℕ). not (eqb n 0)) (key_past (λ (s : Slot). 1) s ss q) ∙ marked_from ss ∙ sym (has_past s ss q))
 
   -- WHETHER A KEY IS THERE
@@ -149,4 +183,4 @@ module _ (k : ℕ) (low : k < 31) where
   unfolding by_key slot_for
   kept_is f z [] = nothing ∙ sym z
   kept_is f z (s ∷ ss) =
-      by (eqb s.code k) (λ q. key_here f s ss q ∙ sym (ap f (slot_here s ss q))) (λ q. key_past f s ss q ∙ kept_is f z ss ∙ sym (ap f (slot_past s ss q)))
+      by (eqb (key_code s.code) k) (λ q. key_here f s ss q ∙ sym (ap f (slot_here s ss q))) (λ q. key_past f s ss q ∙ kept_is f z ss ∙ sym (ap f (slot_past s ss q)))

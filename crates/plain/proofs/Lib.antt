@@ -5,3 +5,4 @@ pub mod TotalLaw
 pub mod KeyLaws
 pub mod ValueLaws
 pub mod LoadLaw
+pub mod Codes

@@ -22,7 +22,8 @@ use Rattle.event.specs.Description.{Described}
 use Rattle.event.specs.Described.{read}
 use Rattle.event.specs.Agrees.{TextDescribed, no_text, a_text, Describes}
 use Rattle.plain.specs.declared.Plain.{Plain}
-use Rattle.plain.specs.Plain.{Parsed, parsed_of, text_if, slot_bytes, loads_in, parsed_in, read_loads, parsed_raw, is_plain, all_plain, plainly, span_of, slot_of, PlainOf}
+use Rattle.plain.specs.declared.Slot.{Slot}
+use Rattle.plain.specs.Plain.{Parsed, parsed_of, text_if, loads_in, parsed_in, read_loads, parsed_raw, is_plain, all_plain, plainly, Span, span_of, slot_of, span_in, PlainOf}
 
 -- ---- escapes
 
@@ -165,8 +166,21 @@ all_tail : (p : Pair) (ps : List Pair) → all_plain (p ∷ ps) ≡ true → all
 unfolding all_plain
 all_tail p ps e = rw (all_head p ps e, all_plain) at e
 
-loads_plain : {raw : List ℕ} {ps : List Pair} {ats : List Attribute} → Pairs raw ps ats → all_plain ps ≡ true → loads_in raw (map slot_of ps) ≡ value_loads ats
-unfolding loads_in value_loads slot_of span_of
+abbrev pub bytes_by : List ℕ → Span → List ℕ
+bytes_by raw s = part raw s.at s.len
+
+loads_by : List ℕ → List Span → List Load
+loads_by raw [] = []
+loads_by raw (s ∷ ss) = record { key = s.code; bytes = bytes_by raw s } ∷ loads_by raw ss
+
+-- Values are read by numbers alone.
+loads_same : (raw : List ℕ) (ss : List Slot) → loads_in raw ss ≡ loads_by raw (map span_in ss)
+unfolding loads_in span_in loads_by part
+loads_same raw [] = refl
+loads_same raw (s ∷ ss) = ap (λ (is : List Load). record { key = (span_in s).code; bytes = part raw s.at s.len } ∷ is) (loads_same raw ss)
+
+loads_plain : {raw : List ℕ} {ps : List Pair} {ats : List Attribute} → Pairs raw ps ats → all_plain ps ≡ true → loads_by raw (map slot_of ps) ≡ value_loads ats
+unfolding value_loads slot_of span_of loads_by part
 loads_plain no_pairs_lem e = refl
 loads_plain {raw} (pair {p} {a} {ps} r h) e =
     ap₂ (λ (i : Load) (is : List Load). i ∷ is) (λ i. record { key = r.code i; bytes = plain_part raw p.value a.value r.value (all_head p ps e) i })
@@ -197,9 +211,9 @@ plain_all d e =
 
 -- THE EVENT'S OWN BYTES, WHERE NO PART HAS AN ESCAPE
 pub plain_law : (raw : List ℕ) (d : Described) (e : Event) → Describes raw d e → in_form limits01 e ≡ true → plainly d ≡ true → (r : Plain) → PlainOf d r → parsed_in raw r ≡ parsed_of e
-unfolding parsed_in parsed_of span_of
+unfolding parsed_in parsed_of span_of span_in part
 plain_law raw d e h f p r s =
     let a : AllPlain d = plain_all d p in
-    parsed_eq (s.kind ∙ h.kind) (s.tag ∙ h.tag) (ap (slot_bytes raw) s.name ∙ plain_part raw d.name e.name h.name a.name)
-    (ap (loads_in raw) (ap (λ (c : ℕ). take c r.slots) s.count ∙ s.slots) ∙ loads_plain h.pairs a.pairs)
-    (ap₂ text_if (s.kind ∙ h.kind) (ap (slot_bytes raw) s.text) ∙ text_plain e.kind (fits_text e.kind e (form e f).kind) h.text a.text)
+    parsed_eq (s.kind ∙ h.kind) (s.tag ∙ h.tag) (ap (bytes_by raw) s.name ∙ plain_part raw d.name e.name h.name a.name)
+    (ap (loads_in raw) (ap (λ (c : ℕ). take c r.slots) s.count) ∙ loads_same raw (take d.count r.slots) ∙ ap (loads_by raw) s.slots ∙ loads_plain h.pairs a.pairs)
+    (ap₂ text_if (s.kind ∙ h.kind) (ap (bytes_by raw) s.text) ∙ text_plain e.kind (fits_text e.kind e (form e f).kind) h.text a.text)

@@ -23,8 +23,8 @@ use Rattle.event.specs.Described.{blank, read, described}
 use Rattle.event.specs.Agrees.{TextDescribed, no_text, a_text, Describes, Agrees, out_of_form, keys_repeat, in_form_lem}
 use Rattle.event.proofs.EventLaw.{agrees}
 use Rattle.plain.specs.declared.Plain.{Plain}
-use Rattle.plain.specs.Plain.{parsed_of, text_if, text_part, slot_bytes, loads_in, parsed_in, read_loads, parsed_raw, plainly, span_of, PlainOf, length_read, copy_size, Space}
-use Rattle.plain.proofs.PlainLaw.{read_is, parsed_eq, fits_text, form, Form, parsed_law, plain_law}
+use Rattle.plain.specs.Plain.{parsed_of, text_if, text_part, loads_in, parsed_in, read_loads, parsed_raw, plainly, span_of, span_in, PlainOf, length_read, copy_size, Space}
+use Rattle.plain.proofs.PlainLaw.{bytes_by, read_is, parsed_eq, fits_text, form, Form, parsed_law, plain_law}
 
 -- ---- a description that is refused has no parts
 
@@ -34,10 +34,10 @@ nothing_read raw = refl
 
 module _ (raw : List ℕ) (n : ℕ) where
   blank_plain : (r : Plain) → PlainOf (blank n) r → parsed_in raw r ≡ parsed_raw raw (blank n)
-  unfolding parsed_in parsed_raw blank loads_in read_loads span_of part
+  unfolding parsed_in parsed_raw blank loads_in read_loads span_of span_in part
   blank_plain r s =
-      parsed_eq s.kind s.tag (ap (slot_bytes raw) s.name ∙ sym (nothing_read raw)) (ap (λ (c : ℕ). loads_in raw (take c r.slots)) s.count)
-      (ap₂ text_if s.kind (ap (slot_bytes raw) s.text ∙ sym (nothing_read raw)))
+      parsed_eq s.kind s.tag (ap (bytes_by raw) s.name ∙ sym (nothing_read raw)) (ap (λ (c : ℕ). loads_in raw (take c r.slots)) s.count)
+      (ap₂ text_if s.kind (ap (bytes_by raw) s.text ∙ sym (nothing_read raw)))
 
   blank_space : (size : ℕ) → size < 65536 → Space raw (blank n) size
   unfolding blank text_part length_read

@@ -6,6 +6,7 @@ use mathlib.Core.List.{List, [], ◌∷◌, ◌++◌}
 use native.Mathlib.Omega.{arith}
 use lib.Dec.{eqb}
 use lib.ListN.{length, drop, length-take}
+use Rattle.definition.specs.Codes.{key_code}
 use Rattle.definition.specs.Look.{Load, has_load}
 use Rattle.definition.proofs.Base.{true_is_false}
 use Rattle.lines.specs.Parts.{part}
@@ -73,18 +74,18 @@ module _ (k : ℕ) where
 
 -- ---- slots and loads
 
-module _ (src : List ℕ) (k : ℕ) (low : k < 31) where
+module _ (src : List ℕ) (k : ℕ) (low : k < 32) where
   slot_value : (ss : List Slot) → slot_bytes src (slot_for k ss) ≡ value_in k (loads_in src ss)
   unfolding slot_for value_in loads_in part
   slot_value [] = refl
   slot_value (s ∷ ss) =
-      by (eqb s.code k) (λ q. ap (slot_bytes src) (K.slot_here k low s ss q) ∙ sym (value_here k (record { key = s.code; bytes = slot_bytes src s }) (loads_in src ss) q))
-      (λ q. ap (slot_bytes src) (K.slot_past k low s ss q) ∙ slot_value ss ∙ sym (value_past k (record { key = s.code; bytes = slot_bytes src s }) (loads_in src ss) q))
+      by (eqb (key_code s.code) k) (λ q. ap (slot_bytes src) (K.slot_here k low s ss q) ∙ sym (value_here k (record { key = key_code s.code; bytes = slot_bytes src s }) (loads_in src ss) q))
+      (λ q. ap (slot_bytes src) (K.slot_past k low s ss q) ∙ slot_value ss ∙ sym (value_past k (record { key = key_code s.code; bytes = slot_bytes src s }) (loads_in src ss) q))
 
   slot_has : (ss : List Slot) → has_slot k ss ≡ has_load k (loads_in src ss)
   unfolding has_slot has_load loads_in part
   slot_has [] = refl
-  slot_has (s ∷ ss) = by (eqb s.code k) (λ q. rw (q, has_slot, has_load)) (λ q. rw (q, has_slot, has_load) (slot_has ss))
+  slot_has (s ∷ ss) = by (eqb (key_code s.code) k) (λ q. rw (q, has_slot, has_load)) (λ q. rw (q, has_slot, has_load) (slot_has ss))
 
   -- WHETHER A KEY IS THERE, by what is kept of it.
   pub marked_has : (ss : List Slot) (ix : Keyed) → ix ≡ keyed_of ss → (r : Bool) → r ≡ is_marked ix k → r ≡ has_load k (loads_in src ss)

@@ -1,5 +1,6 @@
 -- The values of an event by the number of their key, among its slots and among its loads.
-use Rattle.std.specs.Prelude.{ℕ, ◌+◌, Bool, true, false, not, List, [], ◌∷◌, length, get_or, set, replicate, eqb, ltb}
+use Rattle.std.specs.Prelude.{ℕ, ◌+◌, Bool, true, false, not, List, [], ◌∷◌, length, get_or, set, replicate, eqb, ltb, None}
+use Rattle.definition.specs.Codes.{key_code}
 use Rattle.definition.specs.Look.{Load}
 use Rattle.lines.specs.Parts.{part}
 use Rattle.plain.specs.declared.Slot.{Slot}
@@ -12,7 +13,7 @@ key_place k = elim (ltb k 31) [ true ↦ k | false ↦ 31 ]
 unfoldable pub by_key : (Slot → ℕ) → List Slot → List ℕ
 unfolding key_place
 by_key f [] = replicate 32 0
-by_key f (s ∷ ss) = set (by_key f ss) (key_place s.code) (f s)
+by_key f (s ∷ ss) = set (by_key f ss) (key_place (key_code s.code)) (f s)
 
 unfoldable pub keyed_of : List Slot → Keyed
 unfolding by_key
@@ -27,15 +28,15 @@ unfolding part
 keyed_bytes src ix k = part src (get_or ix.at k 0) (get_or ix.len k 0)
 
 abbrev pub no_slot : Slot
-no_slot = record { code = 0; at = 0; len = 0 }
+no_slot = record { code = None; at = 0; len = 0 }
 
 unfoldable pub has_slot : ℕ → List Slot → Bool
 has_slot k [] = false
-has_slot k (s ∷ ss) = elim (eqb s.code k) [ true ↦ true | false ↦ has_slot k ss ]
+has_slot k (s ∷ ss) = elim (eqb (key_code s.code) k) [ true ↦ true | false ↦ has_slot k ss ]
 
 unfoldable pub slot_for : ℕ → List Slot → Slot
 slot_for k [] = no_slot
-slot_for k (s ∷ ss) = elim (eqb s.code k) [ true ↦ s | false ↦ slot_for k ss ]
+slot_for k (s ∷ ss) = elim (eqb (key_code s.code) k) [ true ↦ s | false ↦ slot_for k ss ]
 
 -- The first value of a key; no bytes without it.
 unfoldable pub value_in : ℕ → List Load → List ℕ

@@ -3,6 +3,7 @@ use Rattle.std.specs.Prelude.{ℕ, ◌+◌, ◌*◌, ◌<◌, ◌≤◌, ◌≡�
 use Rattle.std.proofs.Math.Option.{Option, none, some}
 use Rattle.definition.specs.Limits.{limits01}
 use Rattle.definition.specs.Elements.{tag_of}
+use Rattle.definition.specs.Codes.{kind_number, tag_number, key_code}
 use Rattle.definition.specs.Event.{Event, kind}
 use Rattle.definition.specs.Look.{Load, value_loads}
 use Rattle.lines.specs.Parts.{part}
@@ -40,7 +41,7 @@ slot_bytes src s = part src s.at s.len
 unfoldable pub loads_in : List ℕ → List Slot → List Load
 unfolding part
 loads_in src [] = []
-loads_in src (s ∷ ss) = record { key = s.code; bytes = slot_bytes src s } ∷ loads_in src ss
+loads_in src (s ∷ ss) = record { key = key_code s.code; bytes = slot_bytes src s } ∷ loads_in src ss
 
 abbrev pub slots_of : Plain → List Slot
 slots_of p = take p.count p.slots
@@ -49,11 +50,11 @@ unfoldable pub parsed_in : List ℕ → Plain → Parsed
 unfolding loads_in text_if part
 parsed_in src p =
     record {
-      kind = p.kind;
-      tag = p.tag;
+      kind = kind_number p.kind;
+      tag = tag_number p.tag;
       name = slot_bytes src p.name;
       values = loads_in src (slots_of p);
-      text = text_if p.kind (slot_bytes src p.text);
+      text = text_if (kind_number p.kind) (slot_bytes src p.text);
     }
 
 -- As it is written, and read unescaped.
@@ -90,21 +91,31 @@ plainly d =
       | false ↦ false
     ]
 
-unfoldable pub span_of : ℕ → Part → Slot
+-- A part by its key's number, 0 where it has none, and where it is written.
+pub record Span : Type 0 where
+  pub code : ℕ
+  pub at : ℕ
+  pub len : ℕ
+
+unfoldable pub span_of : ℕ → Part → Span
 span_of k p = record { code = k; at = p.at; len = p.len }
 
-unfoldable pub slot_of : Pair → Slot
+unfoldable pub slot_of : Pair → Span
 unfolding span_of
 slot_of p = span_of p.code p.value
 
+-- What the code has, in numbers.
+unfoldable pub span_in : Slot → Span
+span_in s = record { code = key_code s.code; at = s.at; len = s.len }
+
 -- The parts where they are written; what stands past the first `count` slots is left open.
 pub record PlainOf (d : Described) (r : Plain) : Type 0 where
-  pub kind : r.kind ≡ d.kind
-  pub tag : r.tag ≡ d.tag
+  pub kind : kind_number r.kind ≡ d.kind
+  pub tag : tag_number r.tag ≡ d.tag
   pub count : r.count ≡ d.count
-  pub name : r.name ≡ span_of 0 d.name
-  pub text : r.text ≡ span_of 0 d.text
-  pub slots : take d.count r.slots ≡ map slot_of (take d.count d.pairs)
+  pub name : span_in r.name ≡ span_of 0 d.name
+  pub text : span_in r.text ≡ span_of 0 d.text
+  pub slots : map span_in (take d.count r.slots) ≡ map slot_of (take d.count d.pairs)
 
 -- The lengths of all values as they are read.
 unfoldable pub length_read : List ℕ → List Pair → ℕ

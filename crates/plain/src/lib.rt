@@ -4,30 +4,44 @@
 
 ghost use Rattle.std.specs.Prelude.{◌≡◌, ◌+◌, ◌-◌, ◌<◌, ◌≤◌, ◌++◌, length, take, drop};
 ghost use Rattle.definition.specs.Codes.{kind_number, key_code};
-ghost use Rattle.definition.specs.Look.{payload};
-ghost use Rattle.parts.specs.Parts.{pair_of, text_of as text_in};
+ghost use Rattle.parts.specs.Parts.{text_of as text_in};
 ghost use Rattle.event.specs.Described.{read, described_by};
-ghost use Rattle.plain.specs.Plain.{is_plain, plainly, span_of, PlainOf, text_part, slot_bytes, slots_of, loads_in, parsed_in, parsed_raw, Space};
-ghost use Rattle.plain.specs.Keyed.{key_place, keyed_of, is_marked, keyed_bytes};
+ghost use Rattle.plain.specs.Plain.{is_plain, plainly, span_of, span_in, PlainOf, text_part, slot_bytes, parsed_in, parsed_raw, Space};
+ghost use Rattle.plain.specs.Keyed.{key_place};
 
-use definition::codes::{Key, Kind};
+pub mod indexed;
+
+use definition::codes::{Key, Kind, Tag};
 use event::Head;
+use indexed::Indexed;
 use lines::{part_of, unescape};
 use parts::{Pair, Part, at_most_16, no_part};
 
-/// A part: its key's number, 0 where it has none, and where it stands.
+/// A part: its key, where it has one that is known, and where it stands.
 #[derive(Clone, Copy)]
 pub struct Slot {
-    pub code: u32,
+    pub code: Option<Key>,
     pub at: u16,
     pub len: u16,
+}
+
+impl Slot {
+    /// Its key's number; 0 without a known key.
+    pub fn number(self) -> u32
+        ensures { result ≡ key_code self.code }
+    {
+        match self.code {
+            Some(key) => key.number(),
+            None => 0,
+        }
+    }
 }
 
 /// An event: the first `count` of `slots` are its values, in order. Of a `whole` event `text` is the text.
 #[derive(Clone, Copy)]
 pub struct Plain {
-    pub kind: u32,
-    pub tag: u32,
+    pub kind: Kind,
+    pub tag: Tag,
     pub count: usize,
     pub name: Slot,
     pub text: Slot,
@@ -61,13 +75,6 @@ pub struct Keyed {
     pub len: [u16; Plain::KEYS],
 }
 
-/// What one walk over an event's values gives: the values by key, and how long all of them are together.
-#[derive(Clone, Copy)]
-pub struct Indexed {
-    pub keyed: Keyed,
-    pub total: usize,
-}
-
 #[tactic(auto, unfolding(crate::specs::Plain::is_plain))]
 fn is_plain_part(p: Part) -> bool
     ensures { result ≡ is_plain p }
@@ -75,19 +82,9 @@ fn is_plain_part(p: Part) -> bool
     p.len == p.size
 }
 
-// A key's number; 0 where the key is unknown.
-fn code_of(code: Option<Key>) -> u32
-    ensures { result ≡ key_code code }
-{
-    match code {
-        Some(key) => key.number(),
-        None => 0,
-    }
-}
-
-#[tactic(auto, unfolding(crate::specs::Plain::span_of))]
-fn slot_of(code: u32, p: Part) -> Slot
-    ensures { result ≡ span_of code p }
+#[tactic(auto, unfolding(crate::specs::Plain::span_of, crate::specs::Plain::span_in))]
+fn slot_of(code: Option<Key>, p: Part) -> Slot
+    ensures { span_in result ≡ span_of (key_code code) p }
 {
     Slot {
         code,
@@ -96,28 +93,27 @@ fn slot_of(code: u32, p: Part) -> Slot
     }
 }
 
-pub fn plain_of(d: Head, pairs: &[Pair]) -> Placed
-    requires { length pairs.now ≡ 16 }
+pub fn plain_of(d: Head, pairs: &[Pair; 16]) -> Placed
     ensures plain { result.plain ≡ plainly (described_by d pairs.now) }
     ensures parts { PlainOf (described_by d pairs.now) result.parts }
 {
     let given = d.text.unwrap_or(no_part());
-    let name = slot_of(0, d.name);
+    let name = slot_of(None, d.name);
     let mut slots = [name; Plain::SLOTS];
     let mut plain = is_plain_part(d.name) & is_plain_part(given);
     for i in 0..at_most_16(d.count) {
         let p = pairs[i];
-        slots[i] = slot_of(code_of(p.code), p.value);
+        slots[i] = slot_of(p.code, p.value);
         plain = plain & is_plain_part(p.value);
     }
     Placed {
         plain,
         parts: Plain {
-            kind: d.kind.number(),
-            tag: d.tag.number(),
+            kind: d.kind,
+            tag: d.tag,
             count: d.count,
             name,
-            text: slot_of(0, given),
+            text: slot_of(None, given),
             slots,
         },
     }
@@ -135,7 +131,7 @@ fn copy_part(out: &mut [u8], pos: usize, raw: &[u8], p: Part) -> usize
     )
 }
 
-fn slot_at(code: u32, start: usize, end: usize) -> Slot
+fn slot_at(code: Option<Key>, start: usize, end: usize) -> Slot
     requires { (start ≤ end) × (end < 65536) }
     ensures { result ≡ record { code = code; at = start; len = end - start } }
 {
@@ -158,27 +154,26 @@ fn text_of(kind: Kind, given: Option<Part>) -> Part
 }
 
 // The parts unescaped into a copy.
-pub fn unescape_all(out: &mut [u8], raw: &[u8], d: Head, pairs: &[Pair]) -> Plain
-    requires pairs_len { length pairs.now ≡ 16 }
-    requires space { Space raw.now (described_by d pairs.now) (length out.old) }
+pub fn unescape_all(out: &mut [u8], raw: &[u8], d: Head, pairs: &[Pair; 16]) -> Plain
+    requires { Space raw.now (described_by d pairs.now) (length out.old) }
     ensures { parsed_in out.new result ≡ parsed_raw raw.now (described_by d pairs.now) }
 {
     let dt = text_of(d.kind, d.text);
     let first = copy_part(out, 0, raw, d.name);
-    let name = slot_at(0, 0, first);
+    let name = slot_at(None, 0, first);
     let second = copy_part(out, first, raw, dt);
-    let text = slot_at(0, first, second);
+    let text = slot_at(None, first, second);
     let mut slots = [name; Plain::SLOTS];
     let mut pos = second;
     for i in 0..at_most_16(d.count) {
         let p = pairs[i];
         let end = copy_part(out, pos, raw, p.value);
-        slots[i] = slot_at(code_of(p.code), pos, end);
+        slots[i] = slot_at(p.code, pos, end);
         pos = end;
     }
     Plain {
-        kind: d.kind.number(),
-        tag: d.tag.number(),
+        kind: d.kind,
+        tag: d.tag,
         count: d.count,
         name,
         text,
@@ -186,20 +181,18 @@ pub fn unescape_all(out: &mut [u8], raw: &[u8], d: Head, pairs: &[Pair]) -> Plai
     }
 }
 
-// A key's place in the index; the last one is for numbers that no key has.
-#[tactic(auto, unfolding(crate::specs::Keyed::key_place))]
-fn key_place(code: u32) -> usize
-    ensures value { result ≡ key_place code }
+// The place of a part's key in the index: its number, below the last place.
+fn place_of(slot: Slot) -> usize
+    ensures value { result ≡ key_place (key_code slot.code) }
     ensures upper_bound { result < 32 }
 {
-    code.min(31) as usize
+    slot.number() as usize
 }
 
 // From the last value to the first, so that the first one of a key stays.
-pub fn index(src: &[u8], p: Plain) -> Indexed
-    ensures keyed_value { result.keyed ≡ keyed_of (slots_of p) }
-    ensures total_value { result.total ≡ length (payload (loads_in src.now (slots_of p))) }
-    ensures total_bound { result.total ≤ 1048576 }
+pub fn index(src: &[u8], p: Plain) -> Indexed<'_>
+    ensures src_value { result.src.now ≡ src.now }
+    ensures plain_value { result.plain ≡ p }
 {
     let mut there = [0u8; Plain::KEYS];
     let mut at = [0u16; Plain::KEYS];
@@ -207,24 +200,18 @@ pub fn index(src: &[u8], p: Plain) -> Indexed
     let mut total = 0;
     for i in (0..at_most_16(p.count)).rev() {
         let s = p.slots[i];
-        let k = key_place(s.code);
+        let k = place_of(s);
         there[k] = 1;
         at[k] = s.at;
         len[k] = s.len;
         total += bytes_of(src, s).len();
     }
     Indexed {
-        keyed: Keyed { there, at, len },
+        src,
+        plain: p,
+        keys: Keyed { there, at, len },
         total,
     }
-}
-
-#[tactic(auto, unfolding(crate::specs::Keyed::is_marked))]
-pub fn has(ix: Keyed, k: usize) -> bool
-    requires { k < 32 }
-    ensures { result ≡ is_marked ix k }
-{
-    ix.there[k] != 0
 }
 
 /// The bytes of a part.
@@ -233,13 +220,4 @@ pub fn bytes_of(src: &[u8], s: Slot) -> &[u8]
     ensures result_len_bound { length result.now < 65536 }
 {
     part_of(src, usize::from(s.at), usize::from(s.len))
-}
-
-// A key's first value; no bytes without it.
-pub fn value(src: &[u8], ix: Keyed, k: usize) -> &[u8]
-    requires { k < 31 }
-    ensures result_value { result.now ≡ keyed_bytes src.now ix k }
-    ensures result_len_bound { length result.now < 65536 }
-{
-    part_of(src, usize::from(ix.at[k]), usize::from(ix.len[k]))
 }

@@ -6,6 +6,7 @@ use mathlib.Core.List.{[], ◌∷◌, reverse-reverse}
 use lib.ListN.{length}
 use lib.Dec.{eqb}
 use lib.Seq.{take-length}
+use Rattle.std.specs.Prelude.{Some, None}
 use Rattle.definition.specs.Elements.{tag, key}
 use Rattle.definition.specs.Event.{kind}
 use Rattle.definition.specs.Look.{Look}
@@ -14,6 +15,8 @@ use Rattle.definition.specs.Change.{◌≔◌, shape, adding, altering, Outcome,
 use Rattle.definition.specs.States.{start_initial, start_donedata, start_data}
 use Rattle.definition.specs.Actions.{start_invoke, by_parent, of_last_send, of_last_invoke, of_donedata, start_param, start_content, last_entry, last_invoke}
 use Rattle.definition.specs.Reader.{on_done, started}
+use Rattle.plan.specs.declared.Shape.{Shape}
+use Rattle.plan.specs.declared.Shape.TheVariants as S
 use Rattle.plan.specs.Ids.{state_id}
 use Rattle.plan.specs.Plan.{on_datum, Planned, planned, refused}
 use Rattle.plan.specs.After.{verdict_of}
@@ -65,16 +68,19 @@ module _ (T : Tables) (c i d a e k : ℕ) (l₀ : Look) where
   unfolding seen heard start_donedata started verdict_of donedata_p
   start_donedata_lem = by_unless 0 (el 10) n (to_open (el 10) n) (current_state n) _ _ (λ h. rw (reverse-reverse rs, take-length rs))
 
-  -- Both shapes of a value.
-  abbrev as_shape : Bool → ℕ
-  as_shape b = elim b [ true ↦ 0 | false ↦ 1 ]
+  -- Both shapes of a value, and their numbers.
+  abbrev as_shape : Bool → Shape
+  as_shape b = elim b [ true ↦ S.First | false ↦ S.Second ]
 
-  datum_added : (b : Bool) → Meets 0 (el 9) n (to_open (el 9) n) (done (adding (shape (as_shape b)) (datum.state ≔ current_state n ∷ []) (nothing n))) (planned (on_datum (record { added = 1; state = state_id (current_state n); at = 0; shape = as_shape b }) (begun (see 9))))
+  abbrev as_number : Bool → ℕ
+  as_number b = elim b [ true ↦ 0 | false ↦ 1 ]
+
+  datum_added : (b : Bool) → Meets 0 (el 9) n (to_open (el 9) n) (done (adding (shape (as_number b)) (datum.state ≔ current_state n ∷ []) (nothing n))) (planned (on_datum (record { added = Some (record { state = state_id (current_state n); shape = as_shape b }); altered = None }) (begun (see 9))))
   unfolding seen heard started verdict_of begun
   datum_added true = rw (reverse-reverse rs, take-length rs)
   datum_added false = rw (reverse-reverse rs, take-length rs)
 
-  datum_altered : (b : Bool) → Meets 0 (el 9) n (to_open (el 9) n) (done (altering (shape (as_shape b)) l₀.found [] (nothing n))) (planned (on_datum (record { added = 0; state = state_id 0; at = l₀.found; shape = as_shape b }) (begun (see 9))))
+  datum_altered : (b : Bool) → Meets 0 (el 9) n (to_open (el 9) n) (done (altering (shape (as_number b)) l₀.found [] (nothing n))) (planned (on_datum (record { added = None; altered = Some (record { at = l₀.found; shape = as_shape b }) }) (begun (see 9))))
   unfolding seen heard started verdict_of begun
   datum_altered true = rw (reverse-reverse rs, take-length rs)
   datum_altered false = rw (reverse-reverse rs, take-length rs)

@@ -5,6 +5,7 @@ use mathlib.Core.Bool.{Bool, true, false}
 use mathlib.Core.List.{List, [], ◌∷◌, ◌++◌, map}
 use lib.ListN.{length, get_or, drop}
 use lib.Dec.{eqb}
+use Rattle.std.specs.Prelude.{Option, Some, None}
 use Rattle.definition.specs.Rows.{Table, num, row_of, Cell, Numbers, table_of, current_state, root}
 use Rattle.definition.specs.Look.{Look}
 use Rattle.definition.specs.Change.{state_row, entered}
@@ -86,9 +87,10 @@ module _ (T : Tables) (S : Table) (c i d a e a₂ e₂ : ℕ) (l : Look) (h3 : (
   from_same zero = refl
   from_same (suc r) = walk_same (length T.regions) (suc r)
 
-  in_same : (y : Closing) → walk_in n₂ y ≡ walk_in n y
+  in_same : (y : Option Closing) → walk_in n₂ y ≡ walk_in n y
   unfolding walk_in
-  in_same y = ap (λ (w : Walk). elim y.met [ zero ↦ record { met = 0; at = 0 } | suc i ↦ walked_as w ]) (from_same y.current.0)
+  in_same None = refl
+  in_same (Some x) = ap walked_as (from_same x.current.0)
 
   pub seen_same : seen n₂ l ≡ seen n l
   unfolding seen
@@ -135,4 +137,4 @@ seen_entered n l e =
 
 pub plan_entered : (n : Numbers) (l : Look) → length n.tables ≡ 12 → plan_of (entered l n) l ≡ plan_of n l
 unfolding plan_of
-plan_entered n l e = ap (λ (v : Seen). plan_by l.kind v (heard l)) (seen_entered n l e)
+plan_entered n l e = ap (λ (v : Seen). plan_by l.kind l.tag v (heard l)) (seen_entered n l e)

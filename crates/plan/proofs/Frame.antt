@@ -2,23 +2,24 @@
 use Prim.Native.Nat.{ℕ, zero, suc}
 use mathlib.Core.Path.{◌≡◌, refl, sym, ap, ◌∙◌, subst}
 use mathlib.Core.Bool.{Bool, true, false}
-use mathlib.Core.Option.{Option, none, some}
+use mathlib.Core.Option as Perhaps
 use mathlib.Core.List.{reverse, reverse-reverse}
 use lib.ListN.{length, take}
 use lib.Dec.{eqb}
+use native.Mathlib.Omega.{arith}
+use Rattle.std.specs.Prelude.{Option, Some, None}
 use Rattle.definition.specs.Rows.{Table, table, Numbers, table_of, current_state}
 use Rattle.definition.specs.Look.{Look}
 use Rattle.definition.specs.Change.{Change, Outcome, done, refuse, nothing, made, pushed, popped, unless_zero, Closed, closed_by, on_closed, closing}
 use Rattle.definition.specs.States.{initial_of, unless_initial}
 use Rattle.definition.specs.Reader.{Verdict, accept, reject, on_done, end_of, finished}
 use Rattle.definition.proofs.Changes.{without_snoc}
-use native.Mathlib.Omega.{arith}
 use Rattle.plan.specs.declared.Plan.{Plan}
 use Rattle.plan.specs.Plan.{Planned, planned, refused}
 use Rattle.plan.specs.After.{applied, verdict_of}
 use Rattle.plan.specs.declared.Closing.{Closing}
 use Rattle.plan.specs.Seen.{closed_at, closes, seen}
-use Rattle.plan.specs.Plans.{unless_zero_p, closing_p, unless_initial_p}
+use Rattle.plan.specs.Plans.{unless_zero_p, closed_p, closing_p, unless_initial_p}
 use Rattle.plan.proofs.Laws.{regions_of, closed_is}
 
 -- What is done with a change: an element's start, its end, or both.
@@ -70,21 +71,17 @@ module _ (m : ℕ) (l : Look) (n : Numbers) (k : Next) where
         transition = c.transition;
       }
 
-  by_closed : (y : Closing) (next : Change → Outcome) (P : Planned) → ((i : ℕ) → y.met ≡ suc i → Meets (next (left y)) P)
-      → Meets (on_closed (regions_of (table_of n table.open_regions) y) (nothing n) next) (unless_zero_p y.met P)
-  unfolding on_closed unless_zero_p regions_of on_done verdict_of
-  by_closed y next P h = at y.met h
-    where
-      at : (z : ℕ) → ((i : ℕ) → z ≡ suc i → Meets (next (left y)) P)
-          → Meets (on_closed (elim z [ zero ↦ none | suc i ↦ some (record { current = y.current.0; regions = reverse (take y.kept (table_of n table.open_regions)) }) ]) (nothing n) next) (unless_zero_p z P)
-      at zero h = refl
-      at (suc i) h = h i refl
+  by_closed : (y : Option Closing) (next : Change → Outcome) (P : Closing → Planned) → ((x : Closing) → y ≡ Some x → Meets (next (left x)) (P x))
+      → Meets (on_closed (regions_of (table_of n table.open_regions) y) (nothing n) next) (closed_p y P)
+  unfolding on_closed closed_p regions_of on_done verdict_of
+  by_closed None next P h = refl
+  by_closed (Some x) next P h = h x refl
 
-  pub by_closing : (g : ℕ) → closes l.tag ≡ g → (next : Change → Outcome) (P : Planned) → ((i : ℕ) → (seen n l).closed.met ≡ suc i → Meets (next (left (seen n l).closed)) P) → Meets (closing g (nothing n) next) (closing_p (seen n l) P)
-  unfolding closing closing_p nothing seen
+  pub by_closing : (g : ℕ) → closes l.tag ≡ g → (next : Change → Outcome) (P : Closing → Planned) → ((x : Closing) → (seen n l).closed ≡ Some x → Meets (next (left x)) (P x)) → Meets (closing g (nothing n) next) (closing_p (seen n l) P)
+  unfolding closing nothing seen
   by_closing g e next P h =
       let rs : Table = table_of n table.open_regions in
-      ap (λ (z : Option Closed). on_done (on_closed z (nothing n) next) k) (ap (λ (x : ℕ). closed_by x (reverse rs) n.current) (sym e) ∙ closed_is (closes l.tag) rs n.current)
+      ap (λ (z : Perhaps.Option Closed). on_done (on_closed z (nothing n) next) k) (ap (λ (x : ℕ). closed_by x (reverse rs) n.current) (sym e) ∙ closed_is (closes l.tag) rs n.current)
       ∙ by_closed (closed_at (closes l.tag) rs (length rs) n.current) next P h
 
 -- ---- a start and an end as one event: the end goes on from the store that the start's plan leaves

@@ -2,13 +2,14 @@
 use Prim.Native.Nat.{ℕ, zero, suc, ◌+◌, ◌≤◌, ◌<◌}
 use mathlib.Core.Path.{◌≡◌, refl, ap, ◌∙◌, subst}
 use mathlib.Core.Bool.{Bool, true, false}
-use mathlib.Core.Option.{Option, none, some}
+use mathlib.Core.Option as Perhaps
 use mathlib.Core.List.{[], ◌∷◌, ◌++◌, reverse, reverse_aux, reverse-reverse, reverse_aux-eq, reverse-append}
 use lib.ListN.{length, get_or, set, take}
 use lib.Dec.{eqb, eqb_refl, eqb→eq}
-use Rattle.definition.proofs.Base.{is_true_lem, T_of}
 use lib.Seq.{take-suc, take-length, get_or-set_other, set_comm}
 use native.Mathlib.Omega.{arith}
+use Rattle.std.specs.Prelude.{Option, Some, None}
+use Rattle.definition.proofs.Base.{is_true_lem, T_of}
 use Rattle.definition.specs.Rows.{Row, Table, num, row_of, last_of, open_region}
 use Rattle.definition.specs.Change.{alter_row, Closed, closed_by}
 use Rattle.definition.specs.Actions.{place_of_number}
@@ -71,18 +72,18 @@ alter_sets j v (suc i) f [] h e = absurd (omega arith)
 alter_sets j v (suc zero) f (r ∷ rs) h e = h r e
 alter_sets j v (suc (suc i)) f (r ∷ rs) h e = alter_sets j v (suc i) f rs h e
 
-pub put_keeps : (x v j : ℕ) (r : Row) → ¬ (j ≡ x) → num (put x v r) j ≡ num r j
+pub put_keeps : (x : ℕ) (v : Option ℕ) (j : ℕ) (r : Row) → ¬ (j ≡ x) → num (put x v r) j ≡ num r j
 unfolding put
-put_keeps x zero j r h = refl
-put_keeps x (suc v) j r h = get_or-set_other r x j v 0 h
+put_keeps x None j r h = refl
+put_keeps x (Some v) j r h = get_or-set_other r x j v 0 h
 
 -- The state's initial may be set before its doc id and its parent.
-early : (q v t : ℕ) (r : Row) → set (put 4 q (set r 2 v)) 3 t ≡ put 4 q (set (set r 3 t) 2 v)
+early : (q : Option ℕ) (v t : ℕ) (r : Row) → set (put 4 q (set r 2 v)) 3 t ≡ put 4 q (set (set r 3 t) 2 v)
 unfolding put
-early zero v t r = set_comm r 2 3 v t (omega arith)
-early (suc q) v t r = set_comm (set r 2 v) 4 3 q t (omega arith) ∙ ap (λ (z : Row). set z 4 q) (set_comm r 2 3 v t (omega arith))
+early None v t r = set_comm r 2 3 v t (omega arith)
+early (Some q) v t r = set_comm (set r 2 v) 4 3 q t (omega arith) ∙ ap (λ (z : Row). set z 4 q) (set_comm r 2 3 v t (omega arith))
 
-pub initial_early : (q v t : ℕ) → ◌≡◌ {A = Row → Row} (λ r. set (put 4 q (set r 2 v)) 3 t) (λ r. put 4 q (set (set r 3 t) 2 v))
+pub initial_early : (q : Option ℕ) (v t : ℕ) → ◌≡◌ {A = Row → Row} (λ r. set (put 4 q (set r 2 v)) 3 t) (λ r. put 4 q (set (set r 3 t) 2 v))
 initial_early q v t = λ j r. early q v t r j
 
 -- The row with the next number is the last.
@@ -108,8 +109,9 @@ place_last v rs r h e = place_of v rs r h (ap (λ (z : ℕ). eqb z v) e ∙ is_t
 pub back : (rs xs : Table) → reverse_aux (reverse rs) xs ≡ rs ++ xs
 back rs xs = reverse_aux-eq (reverse rs) xs ∙ ap (λ (z : Table). z ++ xs) (reverse-reverse rs)
 
-unfoldable pub regions_of : Table → Closing → Option Closed
-regions_of rs x = elim x.met [ zero ↦ none | suc i ↦ some (record { current = x.current.0; regions = reverse (take x.kept rs) }) ]
+unfoldable pub regions_of : Table → Option Closing → Perhaps.Option Closed
+regions_of rs None = Perhaps.none
+regions_of rs (Some x) = Perhaps.some (record { current = x.current.0; regions = reverse (take x.kept rs) })
 
 closed_to_lem : (g : ℕ) (rs : Table) (k c : ℕ) → k ≤ length rs → closed_by g (reverse (take k rs)) c ≡ regions_of rs (closed_at g rs k c)
 unfolding closed_by closed_at regions_of
@@ -124,9 +126,9 @@ closed_to_lem g rs (suc k) c h =
     go (suc i) ih = at (eqb (num (get_or rs k []) open_region.tag) g)
       where
         at : (b : Bool) → elim b [
-          | true ↦ some (record { current = num (get_or rs k []) open_region.region; regions = reverse (take k rs) })
+          | true ↦ Perhaps.some (record { current = num (get_or rs k []) open_region.region; regions = reverse (take k rs) })
           | false ↦ closed_by g (reverse (take k rs)) (num (get_or rs k []) open_region.region)
-        ] ≡ regions_of rs (elim b [ true ↦ record { met = 1; current = region_id (num (get_or rs k []) open_region.region); kept = k } | false ↦ closed_at g rs k (num (get_or rs k []) open_region.region) ])
+        ] ≡ regions_of rs (elim b [ true ↦ Some (record { current = region_id (num (get_or rs k []) open_region.region); kept = k }) | false ↦ closed_at g rs k (num (get_or rs k []) open_region.region) ])
         at true = refl
         at false = ih (num (get_or rs k []) open_region.region)
 

@@ -1,10 +1,11 @@
 -- state, parallel, final, history, scxml.
 use Prim.Native.Nat.{ℕ, zero, suc}
-use mathlib.Core.Path.{◌≡◌, refl, sym, ap, subst, ◌∙◌}
+use mathlib.Core.Path.{◌≡◌, refl, ap, ◌∙◌}
 use mathlib.Core.Bool.{Bool, true, false}
 use mathlib.Core.List.{List, [], ◌∷◌, ◌++◌, reverse, reverse-reverse}
 use lib.ListN.{drop}
 use lib.Seq.{take-length}
+use Rattle.std.specs.Prelude.{Option, Some, None}
 use Rattle.definition.specs.Elements.{key}
 use Rattle.definition.specs.Look.{Look}
 use Rattle.definition.specs.Rows.{Table, table, list, chart, shallow, state, transition, member, internal, Numbers, current_state, current_transition}
@@ -18,7 +19,7 @@ use Rattle.plan.specs.After.{states_after, transitions_after, members_after, ver
 use Rattle.plan.specs.declared.Seen.{Seen}
 use Rattle.plan.specs.Seen.{child_member, seen}
 use Rattle.plan.specs.Heard.{heard}
-use Rattle.plan.specs.Plans.{parent_to, declared_row, initial_row, docs_after, ids_after, initial_if, declared_members, declared_plan, state_p, parallel_p, final_p, history_member, history_p, binding_to, not_child, scxml_p}
+use Rattle.plan.specs.Plans.{parent_to, declared_row, initial_row, docs_after, ids_after, initial_if, declared_members, declared_plan, state_p, parallel_p, final_p, history_member, history_p, binding_to, not_child, scxml_plan, scxml_p}
 use Rattle.plan.specs.declared.Declared.{Declared}
 use Rattle.plan.proofs.Base.{Tables, full, looked}
 use Rattle.plan.proofs.Laws.{draw_id_lem, draw_doc_lem, draw_zero, draw_one, alter_alter}
@@ -46,11 +47,11 @@ module _ (T : Tables) (c i d a e k : ℕ) (l₀ : Look) where
   abbrev own : ℕ
   own = own_state l₀
 
-  abbrev child_as : ℕ → ℕ → ℕ → Bool → Declared
-  child_as par fin p x = record { parent = parent_to p; parallel = par; ends = fin; history = 0; joins = child_member x p own }
+  abbrev child_as : Option ℕ → Option ℕ → ℕ → Bool → Declared
+  child_as par fin p x = record { parent = parent_to p; parallel = par; ends = fin; history = None; joins = child_member x p own }
 
   abbrev child : ℕ → Bool → Declared
-  child p x = child_as 0 0 p x
+  child p x = child_as None None p x
 
   -- ---- the edits of a declared state, and its change
 
@@ -100,7 +101,7 @@ module _ (T : Tables) (c i d a e k : ℕ) (l₀ : Look) where
 
   declared_tables : ℕ → Bool → ℕ → Bool → List Table
   declared_tables g b p x =
-      T.chart ∷ states_after (el g) (declared_row own (initial_if b i) (suc (docs_after b d)) (child p x)) T.states ∷ transitions_after (el g) (initial_row b own (see g)) T.transitions ∷ T.regions ∷ T.entries
+      T.chart ∷ states_after (el g) (Some (declared_row own (initial_if b i) (docs_after b d) (child p x))) T.states ∷ transitions_after (el g) (initial_row b own (see g)) T.transitions ∷ T.regions ∷ T.entries
       ∷ T.invokes ∷ T.datums ∷ T.parameters ∷ members_after (el g) (declared_members b (child_member x p own) (see g)) T.members ∷ T.opened ∷ T.open_names ∷ rs ∷ []
 
   declared_tables_lem : (g : ℕ) (b : Bool) (p : ℕ) (x : Bool) → edited_by (el g) (declared_edits b p x) n.tables ≡ declared_tables g b p x
@@ -130,18 +131,18 @@ module _ (T : Tables) (c i d a e k : ℕ) (l₀ : Look) where
   unfolding seen heard start_parallel parallel_p started verdict_of declared_tables
   start_parallel_lem =
       let p : ℕ = current_state n in
-      by_declared 3 0 (to_open (el 3) n) p (altering (numbers 1) own (state.parallel ≔ 1 ∷ [])) (λ b x. planned (declared_plan b (child_as 2 0 p x) (see 3) (heard (el 3))))
+      by_declared 3 0 (to_open (el 3) n) p (altering (numbers 1) own (state.parallel ≔ 1 ∷ [])) (λ b x. planned (declared_plan b (child_as (Some 1) None p x) (see 3) (heard (el 3))))
       (λ b x. rw (edits_append, declared_tables_lem 3 b p x, alter_alter, reverse-reverse rs, take-length rs))
 
   pub start_final_lem : Meets 0 (el 5) n (to_open (el 5) n) (start_final n (el 5)) (final_p (see 5) (heard (el 5)))
   unfolding seen heard start_final final_p started verdict_of declared_tables
   start_final_lem =
       let p : ℕ = current_state n in
-      by_declared 5 0 (to_open (el 5) n) p (altering (numbers 1) own (state.final ≔ 1 ∷ [])) (λ b x. planned (declared_plan b (child_as 0 2 p x) (see 5) (heard (el 5))))
+      by_declared 5 0 (to_open (el 5) n) p (altering (numbers 1) own (state.final ≔ 1 ∷ [])) (λ b x. planned (declared_plan b (child_as None (Some 1) p x) (see 5) (heard (el 5))))
       (λ b x. rw (edits_append, declared_tables_lem 5 b p x, alter_alter, reverse-reverse rs, take-length rs))
 
   abbrev history_as : ℕ → Declared
-  history_as s = record { parent = suc s; parallel = 0; ends = 0; history = suc (code_for (el 6) key.type shallow); joins = history_member s own }
+  history_as s = record { parent = Some s; parallel = None; ends = None; history = Some (code_for (el 6) key.type shallow); joins = history_member s own }
 
   history_as_lem : (s : ℕ) (b x : Bool) → Meets 0 (el 6) n (to_open (el 6) n)
       (done (altering (numbers 1) own (state.parent ≔ s ∷ state.history ≔ code_for (el 6) key.type shallow ∷ []) (in_history s (el 6) (declared_as b 0 x)))) (planned (declared_plan b (history_as s) (see 6) (heard (el 6))))
@@ -156,33 +157,18 @@ module _ (T : Tables) (c i d a e k : ℕ) (l₀ : Look) where
       by_declared 6 0 (to_open (el 6) n) 0 (λ z. altering (numbers 1) own (state.parent ≔ s ∷ state.history ≔ code_for (el 6) key.type shallow ∷ []) (in_history s (el 6) z))
       (λ b x. planned (declared_plan b (history_as s) (see 6) (heard (el 6)))) (history_as_lem s)
 
-  abbrev scxml_on : ℕ → Bool → Plan
-  scxml_on v b = on_chart (record { at = 1; binding = v; root = suc own; script = 0 }) (declared_plan b not_child (see 1) (heard (el 1)))
+  abbrev scxml_on : Option ℕ → Bool → Plan
+  scxml_on v b = on_chart (Some (record { binding = v; root = Some own; script = None })) (declared_plan b not_child (see 1) (heard (el 1)))
 
-  abbrev scxml_as : Bool → Plan
-  scxml_as b = scxml_on (binding_to (heard (el 1))) b
-
-  unbound : has (el 1) key.binding ≡ false → binding_to (heard (el 1)) ≡ 0
-  unfolding heard binding_to
-  unbound e = rw (e, binding_to)
-
-  bound : has (el 1) key.binding ≡ true → binding_to (heard (el 1)) ≡ suc (heard (el 1)).binding
-  unfolding heard binding_to
-  bound e = rw (e, binding_to)
-
-  scxml_bound : (b x : Bool) → has (el 1) key.binding ≡ true → Meets 0 (el 1) n (to_open (el 1) n) (done (altering (shape 0) 1 (chart.root ≔ own ∷ []) (binding (el 1) (declared_as b 0 x)))) (planned (scxml_on (suc (heard (el 1)).binding) b))
-  unfolding seen heard parent_to child_member binding not_child started verdict_of declared_plan declared_tables
-  scxml_bound b x e = rw (e, binding, edits_append, edits_append, declared_tables_lem 1 b 0 x, alter_alter, reverse-reverse rs, take-length rs)
-
-  scxml_unbound : (b x : Bool) → has (el 1) key.binding ≡ false → Meets 0 (el 1) n (to_open (el 1) n) (done (altering (shape 0) 1 (chart.root ≔ own ∷ []) (binding (el 1) (declared_as b 0 x)))) (planned (scxml_on 0 b))
-  unfolding seen heard parent_to child_member binding not_child started verdict_of declared_plan declared_tables
-  scxml_unbound b x e = rw (e, binding, edits_append, declared_tables_lem 1 b 0 x, reverse-reverse rs, take-length rs)
-
-  scxml_as_lem : (w b x : Bool) → has (el 1) key.binding ≡ w → Meets 0 (el 1) n (to_open (el 1) n) (done (altering (shape 0) 1 (chart.root ≔ own ∷ []) (binding (el 1) (declared_as b 0 x)))) (planned (scxml_as b))
-  scxml_as_lem true b x e = subst (λ (v : ℕ). Meets 0 (el 1) n (to_open (el 1) n) (done (altering (shape 0) 1 (chart.root ≔ own ∷ []) (binding (el 1) (declared_as b 0 x)))) (planned (scxml_on v b))) (sym (bound e)) (scxml_bound b x e)
-  scxml_as_lem false b x e = subst (λ (v : ℕ). Meets 0 (el 1) n (to_open (el 1) n) (done (altering (shape 0) 1 (chart.root ≔ own ∷ []) (binding (el 1) (declared_as b 0 x)))) (planned (scxml_on v b))) (sym (unbound e)) (scxml_unbound b x e)
+  -- Of w: whether a binding is given.
+  scxml_as : (w b x : Bool) → Meets 0 (el 1) n (to_open (el 1) n)
+      (done (altering (shape 0) 1 (chart.root ≔ own ∷ []) (elim w [ true ↦ altering (numbers table.chart) 1 (chart.binding ≔ code_for (el 1) key.binding 0 ∷ []) (declared_as b 0 x) | false ↦ declared_as b 0 x ])))
+      (planned (scxml_on (elim w [ true ↦ Some (code_for (el 1) key.binding 0) | false ↦ None ]) b))
+  unfolding seen heard parent_to child_member not_child started verdict_of declared_plan declared_tables
+  scxml_as true b x = rw (edits_append, edits_append, declared_tables_lem 1 b 0 x, alter_alter, reverse-reverse rs, take-length rs)
+  scxml_as false b x = rw (edits_append, declared_tables_lem 1 b 0 x, reverse-reverse rs, take-length rs)
 
   pub start_scxml_lem : Meets 0 (el 1) n (to_open (el 1) n) (start_scxml n (el 1)) (scxml_p (see 1) (heard (el 1)))
-  unfolding start_scxml scxml_p seen heard
+  unfolding start_scxml binding scxml_p scxml_plan binding_to seen heard
   start_scxml_lem =
-      by_declared 1 0 (to_open (el 1) n) 0 (λ z. altering (shape 0) 1 (chart.root ≔ own ∷ []) (binding (el 1) z)) (λ b x. planned (scxml_as b)) (λ b x. scxml_as_lem (has (el 1) key.binding) b x refl)
+      by_declared 1 0 (to_open (el 1) n) 0 (λ z. altering (shape 0) 1 (chart.root ≔ own ∷ []) (binding (el 1) z)) (λ b x. planned (scxml_on (binding_to (heard (el 1))) b)) (scxml_as (has (el 1) key.binding))

@@ -7,6 +7,7 @@ use lib.ListN.{length, get_or, set, take}
 use lib.Dec.{eqb}
 use lib.Seq.{take-length, get_or-set_same, get_or-set_other}
 use native.Mathlib.Omega.{arith}
+use Rattle.std.specs.Prelude.{Option, Some, None}
 use Rattle.definition.specs.Elements.{key}
 use Rattle.definition.specs.Look.{Look}
 use Rattle.definition.specs.Rows.{Row, Table, num, row_of, same_list, Numbers, table_of}
@@ -17,8 +18,8 @@ use Rattle.definition.proofs.Changes.{without_snoc}
 use Rattle.plan.specs.declared.ChartPlan.{ChartPlan}
 use Rattle.plan.specs.declared.MemberPlan.{MemberPlan}
 use Rattle.plan.specs.declared.Plan.{Plan}
-use Rattle.plan.specs.Plan.{no_chart, no_member, on_chart, Planned, planned, inside}
-use Rattle.plan.specs.After.{chart_after, put, added_if, member_row, applied, verdict_of}
+use Rattle.plan.specs.Plan.{on_chart, Planned, planned, inside}
+use Rattle.plan.specs.After.{chart_after, put, member_of, member_after, applied, verdict_of}
 use Rattle.plan.specs.declared.Seen.{Seen}
 use Rattle.plan.specs.declared.Heard.{Heard}
 use Rattle.plan.specs.Seen.{first_child_or, joined, seen}
@@ -31,17 +32,17 @@ use Rattle.plan.proofs.Frame.{to_both, Meets, by_then}
 use Rattle.plan.proofs.States.{start_state_lem, start_scxml_lem}
 use Rattle.plan.proofs.Defaults.{first_append, end_state_lem, end_scxml_lem}
 
-first_added : (l o v s : ℕ) (ms : Table) → first_child_or 0 s (added_if l (member_row l o v) ms) ≡ first_child_or (joined (record { list = l; owner = o; value = v }) s) s ms
-unfolding added_if member_row joined same_list
-first_added zero o v s ms = refl
-first_added (suc l) o v s ms = first_append 0 s ms (member_row (suc l) o v)
+first_added : (j : Option MemberPlan) (s : ℕ) (ms : Table) → first_child_or 0 s (member_after j ms) ≡ first_child_or (joined j s) s ms
+unfolding member_after joined same_list
+first_added None s ms = refl
+first_added (Some j) s ms = first_append 0 s ms (member_of j)
 
 verdict_unless : (l : Look) (m n : Numbers) (s : ℕ) (P Q : Planned) → verdict_of 2 l m P ≡ verdict_of 1 l n Q → verdict_of 2 l m (unless_zero_p s P) ≡ verdict_of 1 l n (unless_zero_p s Q)
 unfolding verdict_of unless_zero_p
 verdict_unless l m n zero P Q h = refl
 verdict_unless l m n (suc s) P Q h = h
 
-module _ (T : Tables) (c i d a e k : ℕ) (l₀ : Look) (g : ℕ) (ch : ChartPlan) (q : ℕ) (j : MemberPlan) where
+module _ (T : Tables) (c i d a e k : ℕ) (l₀ : Look) (g : ℕ) (ch : Option ChartPlan) (q : Option ℕ) (j : Option MemberPlan) where
   abbrev n : Numbers
   n = full T c i d a e
 
@@ -55,7 +56,7 @@ module _ (T : Tables) (c i d a e k : ℕ) (l₀ : Look) (g : ℕ) (ch : ChartPla
   own = own_state l₀
 
   abbrev x : Declared
-  x = record { parent = q; parallel = 0; ends = 0; history = 0; joins = j }
+  x = record { parent = q; parallel = None; ends = None; history = None; joins = j }
 
   abbrev v : Seen
   v = seen n l
@@ -86,7 +87,7 @@ module _ (T : Tables) (c i d a e k : ℕ) (l₀ : Look) (g : ℕ) (ch : ChartPla
 
   first_kept : first_child_or 0 own (table_of (m false) 8) ≡ first_child_or (joined j own) own T.members
   unfolding seen heard applied declared_plan
-  first_kept = first_added j.list j.owner j.value own T.members
+  first_kept = first_added j own T.members
 
   default_then : (f : ℕ) → applied 2 l (default_to own f (w false)) (m false) ≡ applied 1 l (on_chart ch (defaulted f x v o)) n
   unfolding seen heard applied declared_plan default_to defaulted
@@ -120,12 +121,12 @@ module _ (T : Tables) (c i d a e k : ℕ) (l₀ : Look) (g : ℕ) (ch : ChartPla
       ∙ ap (λ (f : ℕ). verdict_of 2 l (m false) (at_end false (initial_of n own) f)) (first_kept ∙ sym z) ∙ without (initial_of n own) v.eldest.0)
 
 -- The chart's row has its root.
-root_set : (k : ℕ) (l₀ : Look) (w s : ℕ) (rs : Table) → 0 < length (get_or rs 0 []) → num (get_or (chart_after (looked k 1 l₀) (record { at = 1; binding = w; root = suc s; script = 0 }) rs) 0 []) 0 ≡ s
+root_set : (k : ℕ) (l₀ : Look) (w : Option ℕ) (s : ℕ) (rs : Table) → 0 < length (get_or rs 0 []) → num (get_or (chart_after (looked k 1 l₀) (Some (record { binding = w; root = Some s; script = None })) rs) 0 []) 0 ≡ s
 unfolding chart_after
 root_set k l₀ w s [] h = absurd (omega arith)
 root_set k l₀ w s ([] ∷ rs) h = absurd (omega arith)
-root_set k l₀ zero s ((v ∷ vs) ∷ rs) h = refl
-root_set k l₀ (suc w) s ((v ∷ vs) ∷ rs) h = refl
+root_set k l₀ None s ((v ∷ vs) ∷ rs) h = refl
+root_set k l₀ (Some w) s ((v ∷ vs) ∷ rs) h = refl
 
 module _ (T : Tables) (c i d a e k : ℕ) (l₀ : Look) (own_row : 3 < length (row_of T.states (own_state l₀))) where
   abbrev n₁ : Numbers
@@ -137,11 +138,11 @@ module _ (T : Tables) (c i d a e k : ℕ) (l₀ : Look) (own_row : 3 < length (r
       let l₁ : Look = looked k 2 l₀ in
       let v₁ : Seen = seen n₁ l₁ in
       let b : Bool = has l₁ key.initial in
-      let y : Declared = as_child 0 0 v₁ (heard l₁) in
+      let y : Declared = as_child None None v₁ (heard l₁) in
       let p : Plan = declared_plan b y v₁ (heard l₁) in
       let m₁ : Numbers = applied 0 l₁ p n₁ in
       by_then l₁ n₁ (start_state n₁ l₁) p (end_state_p (seen m₁ l₁)) (both_state_p v₁ (heard l₁)) (start_state_lem T c i d a e k l₀) (end_state_lem (tables_of m₁) m₁.current m₁.ids m₁.docs a e k l₀)
-      (ap (λ (s : ℕ). verdict_of 2 l₁ m₁ (default_p s (initial_of m₁ s) (first_child_or 0 s (table_of m₁ 8)) (seen m₁ l₁))) (ap (λ (r : Row). num r 1) (last_snoc [] _ T.opened)) ∙ both_declared_lem T c i d a e k l₀ 2 no_chart y.parent y.joins b own_row refl)
+      (ap (λ (s : ℕ). verdict_of 2 l₁ m₁ (default_p s (initial_of m₁ s) (first_child_or 0 s (table_of m₁ 8)) (seen m₁ l₁))) (ap (λ (r : Row). num r 1) (last_snoc [] _ T.opened)) ∙ both_declared_lem T c i d a e k l₀ 2 None y.parent y.joins b own_row refl)
 
   pub both_scxml : 0 < length (get_or T.chart 0 []) → let l = looked k 1 l₀ in Meets 1 l n₁ (to_both l n₁) (start_scxml n₁ l) (both_scxml_p (seen n₁ l) (heard l))
   unfolding seen heard both_scxml_p scxml_p end_scxml_p end_of applied
@@ -152,4 +153,4 @@ module _ (T : Tables) (c i d a e k : ℕ) (l₀ : Look) (own_row : 3 < length (r
       let p : Plan = scxml_plan v₁ (heard l₁) in
       let m₁ : Numbers = applied 0 l₁ p n₁ in
       by_then l₁ n₁ (start_scxml n₁ l₁) p (end_scxml_p (seen m₁ l₁)) (both_scxml_p v₁ (heard l₁)) (start_scxml_lem T c i d a e k l₀) (end_scxml_lem (tables_of m₁) m₁.current m₁.ids m₁.docs a e k l₀)
-      (ap (λ (s : ℕ). verdict_of 2 l₁ m₁ (default_p s (initial_of m₁ s) (first_child_or 0 s (table_of m₁ 8)) (seen m₁ l₁))) (root_set k l₀ (binding_to (heard l₁)) (own_state l₀) T.chart h) ∙ both_declared_lem T c i d a e k l₀ 1 p.chart 0 no_member b own_row refl)
+      (ap (λ (s : ℕ). verdict_of 2 l₁ m₁ (default_p s (initial_of m₁ s) (first_child_or 0 s (table_of m₁ 8)) (seen m₁ l₁))) (root_set k l₀ (binding_to (heard l₁)) (own_state l₀) T.chart h) ∙ both_declared_lem T c i d a e k l₀ 1 p.chart None None b own_row refl)

@@ -1,42 +1,48 @@
 -- An event decided by its plan alone: the questions, the plan on the store before the event, and 15 by counting.
-use Rattle.std.specs.Prelude.{ℕ, zero, suc, ◌+◌, Bool, true, false, ◌&&◌, List, [], ◌∷◌, length, drop, leb}
+use Rattle.std.specs.Prelude.{ℕ, zero, suc, ◌+◌, Bool, true, false, Option, Some, None, ◌&&◌, List, [], ◌∷◌, length, drop, leb}
 use Rattle.definition.specs.declared.Limits.{Limits}
 use Rattle.definition.specs.Rows.{table, Numbers, table_of}
 use Rattle.definition.specs.Look.{Look}
 use Rattle.definition.specs.Change.{entered}
 use Rattle.definition.specs.Rules.{chart_limits}
 use Rattle.definition.specs.Reader.{Verdict, accept, reject, first_no, questions, all_at_most}
+use Rattle.plan.specs.declared.MemberPlan.{MemberPlan}
+use Rattle.plan.specs.declared.TargetPlan.{TargetPlan}
 use Rattle.plan.specs.declared.MembersPlan.{MembersPlan}
 use Rattle.plan.specs.declared.Plan.{Plan}
 use Rattle.plan.specs.Plan.{Planned, planned, refused}
 use Rattle.plan.specs.After.{applied, move_of}
 use Rattle.plan.specs.Plans.{plan_of}
 
--- One row, unless its key number is 0.
-unfoldable pub one_unless : ℕ → ℕ
-one_unless zero = 0
-one_unless (suc k) = 1
+-- One row more where there is one.
+unfoldable pub one_there : {A : Type 0} → Option A → ℕ
+one_there None = 0
+one_there (Some p) = 1
 
-unfoldable pub unless : ℕ → ℕ → ℕ
-unless zero v = 0
-unless (suc k) v = v
+unfoldable pub words_added : Option MemberPlan → ℕ
+words_added None = 0
+words_added (Some p) = p.value
+
+unfoldable pub targets_added : Look → Option TargetPlan → ℕ
+targets_added l None = 0
+targets_added l (Some p) = length (drop p.skip l.refs)
 
 unfoldable pub members_added : Look → MembersPlan → ℕ
-unfolding one_unless unless
-members_added l p = unless p.words.list p.words.value + unless p.owner (length (drop p.skip l.refs)) + one_unless p.one.list + one_unless p.two.list
+unfolding one_there words_added targets_added
+members_added l p = words_added p.words + targets_added l p.targets + one_there p.one + one_there p.two
 
 -- How many rows each table of the chart has after the event.
 unfoldable pub counts_after : Look → Plan → Numbers → List ℕ
-unfolding one_unless members_added
+unfolding one_there members_added
 counts_after l p n =
     length (table_of n table.chart)
     ∷ (length (table_of n table.states) + length (drop (length (table_of n table.states)) l.known))
-    ∷ (length (table_of n table.transitions) + one_unless p.transitions.number.0)
-    ∷ (length (table_of n table.regions) + one_unless p.regions.one.0 + one_unless p.regions.two.0)
-    ∷ (length (table_of n table.entries) + one_unless p.entries.kind)
-    ∷ (length (table_of n table.invokes) + one_unless p.invokes.added)
-    ∷ (length (table_of n table.datums) + one_unless p.datums.added)
-    ∷ (length (table_of n table.parameters) + one_unless p.parameters.kind)
+    ∷ (length (table_of n table.transitions) + one_there p.transitions.added)
+    ∷ (length (table_of n table.regions) + one_there p.regions.one + one_there p.regions.two)
+    ∷ (length (table_of n table.entries) + one_there p.entries.added)
+    ∷ (length (table_of n table.invokes) + one_there p.invokes.added)
+    ∷ (length (table_of n table.datums) + one_there p.datums.added)
+    ∷ (length (table_of n table.parameters) + one_there p.parameters)
     ∷ (length (table_of n table.members) + members_added l p.members)
     ∷ []
 

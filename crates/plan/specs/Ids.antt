@@ -1,8 +1,12 @@
--- Numbers of states, transitions and regions, typed.
+-- Numbers of states, transitions and regions, typed; the numbers of shapes and of types of a transition.
 use Rattle.std.specs.Prelude.{ℕ}
 use Rattle.definition.specs.declared.StateId.{StateId}
 use Rattle.definition.specs.declared.TransitionId.{TransitionId}
 use Rattle.definition.specs.declared.RegionId.{RegionId}
+use Rattle.plan.specs.declared.Shape.{Shape}
+use Rattle.plan.specs.declared.Shape.TheVariants as S
+use Rattle.plan.specs.declared.TransitionType.{TransitionType}
+use Rattle.plan.specs.declared.TransitionType.TheVariants as M
 
 abbrev pub state_id : ℕ → StateId
 state_id i = record { 0 = i }
@@ -12,3 +16,12 @@ transition_id i = record { 0 = i }
 
 abbrev pub region_id : ℕ → RegionId
 region_id i = record { 0 = i }
+
+abbrev pub shape_number : Shape → ℕ
+shape_number S.First = 0
+shape_number S.Second = 1
+shape_number S.Third = 2
+
+abbrev pub mode_number : TransitionType → ℕ
+mode_number M.External = 0
+mode_number M.Internal = 1

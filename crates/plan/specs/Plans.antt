@@ -1,26 +1,39 @@
--- The plan of each element: of its start, of its end, and of both as one event. Numbers only: what is seen of the store, and the look.
-use Rattle.std.specs.Prelude.{ℕ, zero, suc, Bool, true, false, ◌||◌, List, [], ◌∷◌, get_or, eqb}
+-- The plan of each element: of its start, of its end, and of both as one event. From what is seen of the store, and what is heard of the look.
+use Rattle.std.specs.Prelude.{ℕ, zero, suc, Bool, true, false, Option, Some, None, ◌||◌, List, [], ◌∷◌, get_or, eqb}
 use Rattle.definition.specs.Elements.{tag}
-use Rattle.definition.specs.Event.{kind}
-use Rattle.definition.specs.Rows.{list, entry_kind, owner_kind, internal, Numbers}
+use Rattle.definition.specs.Rows.{internal, Numbers}
 use Rattle.definition.specs.Look.{Look}
 use Rattle.definition.specs.Change.{◌▷◌}
+use Rattle.definition.specs.Codes.{entry_number}
+use Rattle.definition.specs.declared.codes.Tag.TheVariants as T
+use Rattle.definition.specs.declared.codes.Tag.{Tag}
+use Rattle.definition.specs.declared.codes.EntryKind.{EntryKind}
+use Rattle.definition.specs.declared.codes.EntryKind.TheVariants as E
+use Rattle.definition.specs.declared.codes.OwnerKind.{OwnerKind}
+use Rattle.definition.specs.declared.codes.OwnerKind.TheVariants as O
+use Rattle.definition.specs.declared.codes.ListKind.{ListKind}
+use Rattle.definition.specs.declared.codes.ListKind.TheVariants as L
+use Rattle.plan.specs.declared.Shape.{Shape}
+use Rattle.plan.specs.declared.Shape.TheVariants as S
 use Rattle.plan.specs.declared.ChartPlan.{ChartPlan}
 use Rattle.plan.specs.declared.StatePlan.{StatePlan}
 use Rattle.plan.specs.declared.TransitionPlan.{TransitionPlan}
 use Rattle.plan.specs.declared.RegionPlan.{RegionPlan}
 use Rattle.plan.specs.declared.EntryPlan.{EntryPlan}
+use Rattle.plan.specs.declared.InvokePlan.{InvokePlan}
 use Rattle.plan.specs.declared.MemberPlan.{MemberPlan}
 use Rattle.plan.specs.declared.MembersPlan.{MembersPlan}
 use Rattle.plan.specs.declared.OpenPlan.{OpenPlan}
 use Rattle.plan.specs.declared.OpenRegionPlan.{OpenRegionPlan}
 use Rattle.plan.specs.declared.Plan.{Plan}
 use Rattle.plan.specs.declared.Declared.{Declared}
+use Rattle.plan.specs.declared.Closing.{Closing}
 use Rattle.plan.specs.declared.Walked.{Walked}
+use Rattle.plan.specs.declared.Walked.TheVariants as W
 use Rattle.plan.specs.declared.Seen.{Seen}
 use Rattle.plan.specs.declared.Heard.{Heard}
 use Rattle.plan.specs.Ids.{state_id, transition_id, region_id}
-use Rattle.plan.specs.Plan.{Planned, planned, refused, idle, inside, keeping, counting, member, no_chart, no_state, no_transition, no_member, on_chart, on_state, on_transition, on_region, on_entry, on_invoke, on_datum, on_parameter, on_members, on_open_regions, on_counters}
+use Rattle.plan.specs.Plan.{Planned, planned, refused, idle, inside, keeping, counting, member, no_transition, on_chart, on_state, on_transition, on_region, on_entry, on_invoke, on_datum, on_parameter, on_members, on_open_regions, on_counters}
 use Rattle.plan.specs.Heard.{heard}
 use Rattle.plan.specs.Seen.{child_member, seen}
 
@@ -34,9 +47,12 @@ unfoldable pub unless_initial_p : Seen → Planned → Planned
 unless_initial_p v p = elim (eqb v.initial.0 0) [ true ↦ p | false ↦ refused 13 ]
 
 -- Where no region is current it is an internal error.
-unfoldable pub closing_p : Seen → Planned → Planned
-unfolding unless_zero_p
-closing_p v p = unless_zero_p v.closed.met p
+unfoldable pub closed_p : Option Closing → (Closing → Planned) → Planned
+closed_p None p = refused 2
+closed_p (Some x) p = p x
+
+abbrev pub closing_p : Seen → (Closing → Planned) → Planned
+closing_p v p = closed_p v.closed p
 
 -- ---- short forms
 
@@ -48,28 +64,43 @@ unfoldable pub begun : Seen → Plan
 unfolding idle_in
 begun v = idle_in (inside v.state.0 v.transition.0) v
 
-unfoldable pub ended : Seen → Plan
+unfoldable pub ended : Closing → Seen → Plan
 unfolding idle_in
-ended v = idle_in (inside 0 0) v ▷ on_open_regions (keeping v.closed.kept) ▷ on_counters (counting v.closed.current.0 v.ids v.docs)
+ended x v = idle_in (inside 0 0) v ▷ on_open_regions (keeping x.kept) ▷ on_counters (counting x.current.0 v.ids v.docs)
 
 unfoldable pub only_nest_p : Seen → Planned
 unfolding begun
 only_nest_p v = planned (begun v)
 
-abbrev pub new_entry : ℕ → ℕ → ℕ → ℕ → ℕ → EntryPlan
-new_entry h k r s c = record { kind = k; region = region_id r; state = state_id s; content = region_id c; shape = h; at = 0; other = 0; filled = 0 }
+abbrev pub new_entry : Shape → EntryKind → ℕ → ℕ → ℕ → EntryPlan
+new_entry h k r s c = record { added = Some (record { kind = k; region = region_id r; state = state_id s; content = region_id c; shape = h }); altered = None }
+
+-- The entry at e gets the else region r.
+abbrev pub else_to : ℕ → ℕ → EntryPlan
+else_to e r = record { added = None; altered = Some (record { at = e; other = Some r; filled = false }) }
+
+-- The entry at e is filled by a content.
+abbrev pub entry_filled : ℕ → EntryPlan
+entry_filled e = record { added = None; altered = Some (record { at = e; other = None; filled = true }) }
+
+-- The invoke at i gets the finalize r, or is filled by a content.
+abbrev pub finalize_to : ℕ → ℕ → InvokePlan
+finalize_to i r = record { added = None; altered = Some (record { at = i; finalize = Some r; filled = false }) }
+
+abbrev pub invoke_filled : ℕ → InvokePlan
+invoke_filled i = record { added = None; altered = Some (record { at = i; finalize = None; filled = true }) }
 
 abbrev pub one_region : ℕ → RegionPlan
-one_region r = record { one = region_id r; two = region_id 0 }
+one_region r = record { one = Some (region_id r); two = None }
 
-abbrev pub one_member : ℕ → ℕ → ℕ → MembersPlan
-one_member l o v = record { words = no_member; owner = 0; skip = 0; one = member l o v; two = no_member }
+abbrev pub one_member : ListKind → ℕ → ℕ → MembersPlan
+one_member l o v = record { words = None; targets = None; one = Some (member l o v); two = None }
 
-abbrev pub some_words : ℕ → ℕ → ℕ → MembersPlan
-some_words l o v = record { words = member l o v; owner = 0; skip = 0; one = no_member; two = no_member }
+abbrev pub some_words : ListKind → ℕ → ℕ → MembersPlan
+some_words l o v = record { words = Some (member l o v); targets = None; one = None; two = None }
 
-abbrev pub one_more : ℕ → ℕ → ℕ → OpenRegionPlan
-one_more k r g = record { kept = k; region = region_id r; tag = g; inner = region_id 0; by = 0 }
+abbrev pub one_more : ℕ → ℕ → Tag → OpenRegionPlan
+one_more k r g = record { kept = k; one = Some (record { region = region_id r; tag = g }); two = None }
 
 -- A region is drawn, without stack: it is the current one, and no other is open.
 unfoldable pub fresh_p : Seen → Plan → Plan
@@ -77,29 +108,29 @@ fresh_p v p = p ▷ on_region (one_region (suc v.ids)) ▷ on_open_regions (keep
 
 -- ---- entries
 
-unfoldable pub entry_p : ℕ → ℕ → Seen → Planned
+unfoldable pub entry_p : Shape → EntryKind → Seen → Planned
 unfolding unless_zero_p begun
 entry_p h k v = unless_zero_p v.current.0 (planned (begun v ▷ on_entry (new_entry h k v.current.0 0 0)))
 
 unfoldable pub log_p : Seen → Heard → Planned
 unfolding entry_p only_nest_p
-log_p v q = elim q.expr [ true ↦ entry_p 0 entry_kind.log v | false ↦ only_nest_p v ]
+log_p v q = elim q.expr [ true ↦ entry_p S.First E.Log v | false ↦ only_nest_p v ]
 
 unfoldable pub assign_p : Seen → Heard → Planned
 unfolding entry_p
-assign_p v q = elim (eqb q.kind kind.whole) [ true ↦ entry_p 1 entry_kind.assign v | false ↦ entry_p 0 entry_kind.assign v ]
+assign_p v q = elim q.whole [ true ↦ entry_p S.Second E.Assign v | false ↦ entry_p S.First E.Assign v ]
 
 unfoldable pub root_script_p : Seen → Planned
 unfolding begun
 root_script_p v =
     let r : ℕ = suc v.ids in
     planned (
-    begun v ▷ on_chart (record { at = 1; binding = 0; root = 0; script = suc r }) ▷ on_region (one_region r) ▷ on_entry (new_entry 0 entry_kind.script r 0 0) ▷ on_open_regions (keeping 0)
+    begun v ▷ on_chart (Some (record { binding = None; root = None; script = Some r })) ▷ on_region (one_region r) ▷ on_entry (new_entry S.First E.Script r 0 0) ▷ on_open_regions (keeping 0)
     ▷ on_counters (counting 0 r v.docs))
 
 unfoldable pub script_p : Seen → Planned
 unfolding root_script_p entry_p
-script_p v = elim (eqb v.parent tag.scxml) [ true ↦ root_script_p v | false ↦ entry_p 0 entry_kind.script v ]
+script_p v = elim (eqb v.parent tag.scxml) [ true ↦ root_script_p v | false ↦ entry_p S.First E.Script v ]
 
 unfoldable pub send_p : Seen → Heard → Planned
 unfolding unless_zero_p begun
@@ -107,56 +138,61 @@ send_p v q =
     unless_zero_p v.state.0 (
     unless_zero_p v.current.0 (
     planned (
-    begun v ▷ on_entry (new_entry 0 entry_kind.send v.current.0 v.state.0 0)
-    ▷ on_members (some_words list.send_names (suc v.entries) q.names))))
+    begun v ▷ on_entry (new_entry S.First E.Send v.current.0 v.state.0 0)
+    ▷ on_members (some_words L.SendNames (suc v.entries) q.names))))
 
 -- if and foreach: "entry, then its region."
-unfoldable pub block_plan : ℕ → Seen → Plan
+unfoldable pub block_plan : EntryKind → Seen → Plan
 unfolding begun
-block_plan k v = begun v ▷ on_entry (new_entry 0 k v.current.0 0 (suc v.ids)) ▷ on_region (one_region (suc v.ids))
+block_plan k v = begun v ▷ on_entry (new_entry S.First k v.current.0 0 (suc v.ids)) ▷ on_region (one_region (suc v.ids))
 
-unfoldable pub block_p : ℕ → ℕ → Seen → Planned
+unfoldable pub block_p : Tag → EntryKind → Seen → Planned
 unfolding unless_zero_p block_plan
 block_p g k v =
     let r : ℕ = suc v.ids in
     unless_zero_p v.current.0 (
     planned (block_plan k v ▷ on_open_regions (one_more v.regions v.current.0 g) ▷ on_counters (counting r r v.docs)))
 
-unfoldable pub both_block_p : ℕ → Seen → Planned
+unfoldable pub both_block_p : EntryKind → Seen → Planned
 unfolding unless_zero_p block_plan
 both_block_p k v = unless_zero_p v.current.0 (planned (block_plan k v ▷ on_counters (counting v.current.0 (suc v.ids) v.docs)))
 
 unfoldable pub end_block_p : Seen → Planned
-unfolding closing_p ended
-end_block_p v = closing_p v (planned (ended v))
+unfolding closed_p ended
+end_block_p v = closing_p v (λ x. planned (ended x v))
 
 -- ---- else and elseif
 
-unfoldable pub walked_p : Walked → Plan → Planned
-walked_p w p = elim w.met [ zero ↦ refused 14 | suc i ↦ planned p ]
+unfoldable pub walked_p : Walked → (ℕ → Plan) → Planned
+walked_p W.NoIf f = refused 14
+walked_p W.Nowhere f = planned (f 0)
+walked_p (W.Met e) f = planned (f e)
 
-unfoldable pub else_plan : Seen → ℕ → Plan
+unfoldable pub else_plan : Closing → Seen → ℕ → Plan
 unfolding begun
-else_plan v e =
+else_plan x v e =
     let r : ℕ = suc v.ids in
-    begun v ▷ on_region (one_region r) ▷ on_entry (record { kind = 0; region = region_id 0; state = state_id 0; content = region_id 0; shape = 0; at = e; other = suc r; filled = 0 })
-    ▷ on_open_regions (one_more v.closed.kept v.closed.current.0 tag.if) ▷ on_counters (counting r r v.docs)
+    begun v ▷ on_region (one_region r) ▷ on_entry (else_to e r) ▷ on_open_regions (one_more x.kept x.current.0 T.If) ▷ on_counters (counting r r v.docs)
 
 unfoldable pub else_p : Seen → Planned
-unfolding closing_p walked_p else_plan
-else_p v = closing_p v (walked_p v.walk (else_plan v v.walk.at))
+unfolding closed_p walked_p else_plan
+else_p v = closing_p v (λ x. walked_p v.walk (else_plan x v))
 
-unfoldable pub else_if_plan : Seen → ℕ → Plan
+unfoldable pub else_if_plan : Closing → Seen → ℕ → Plan
 unfolding begun
-else_if_plan v e =
+else_if_plan x v e =
     let r : ℕ = suc v.ids in
-    begun v ▷ on_region (record { one = region_id r; two = region_id (suc r) })
-    ▷ on_entry (record { kind = entry_kind.if; region = region_id r; state = state_id 0; content = region_id (suc r); shape = 0; at = e; other = suc r; filled = 0 })
-    ▷ on_open_regions (record { kept = v.closed.kept; region = v.closed.current; tag = tag.if; inner = region_id r; by = tag.elseif }) ▷ on_counters (counting (suc r) (suc r) v.docs)
+    begun v ▷ on_region (record { one = Some (region_id r); two = Some (region_id (suc r)) })
+    ▷ on_entry (
+    record {
+      added = Some (record { kind = E.If; region = region_id r; state = state_id 0; content = region_id (suc r); shape = S.First });
+      altered = Some (record { at = e; other = Some r; filled = false });
+    })
+    ▷ on_open_regions (record { kept = x.kept; one = Some (record { region = x.current; tag = T.If }); two = Some (record { region = region_id r; tag = T.Elseif }) }) ▷ on_counters (counting (suc r) (suc r) v.docs)
 
 unfoldable pub else_if_p : Seen → Planned
-unfolding closing_p walked_p else_if_plan
-else_if_p v = closing_p v (walked_p v.walk (else_if_plan v v.walk.at))
+unfolding closed_p walked_p else_if_plan
+else_if_p v = closing_p v (λ x. walked_p v.walk (else_if_plan x v))
 
 -- ---- onentry, onexit, finalize
 
@@ -164,41 +200,44 @@ unfoldable pub region_p : Seen → Planned
 unfolding begun fresh_p
 region_p v = planned (begun v ▷ fresh_p v)
 
-unfoldable pub end_listed_p : ℕ → Seen → Planned
-unfolding closing_p unless_zero_p ended
-end_listed_p l v = closing_p v (
-    unless_zero_p v.state.0 (planned (ended v ▷ on_members (one_member l v.state.0 v.current.0))))
+unfoldable pub end_listed_p : ListKind → Seen → Planned
+unfolding closed_p unless_zero_p ended
+end_listed_p l v = closing_p v (λ x. unless_zero_p v.state.0 (planned (ended x v ▷ on_members (one_member l v.state.0 v.current.0))))
 
 -- Start and end as one: the region is drawn and none is current.
 unfoldable pub passing : Seen → Plan
 unfolding begun
 passing v = begun v ▷ on_region (one_region (suc v.ids)) ▷ on_open_regions (keeping 0) ▷ on_counters (counting 0 (suc v.ids) v.docs)
 
-unfoldable pub both_listed_p : ℕ → Seen → Planned
+unfoldable pub both_listed_p : ListKind → Seen → Planned
 unfolding unless_zero_p passing
 both_listed_p l v = unless_zero_p v.state.0 (planned (passing v ▷ on_members (one_member l v.state.0 (suc v.ids))))
 
 unfoldable pub end_finalize_p : Seen → Planned
-unfolding closing_p unless_zero_p ended
+unfolding closed_p unless_zero_p ended
 end_finalize_p v =
     let i : ℕ = v.invoke in
-    closing_p v (
-    unless_zero_p v.state.0 (unless_zero_p i (planned (ended v ▷ on_invoke (record { added = 0; state = state_id 0; autoforward = 0; at = i; finalize = suc v.current.0; filled = 0 })))))
+    closing_p v (λ x. unless_zero_p v.state.0 (unless_zero_p i (planned (ended x v ▷ on_invoke (finalize_to i v.current.0)))))
 
 unfoldable pub both_finalize_p : Seen → Planned
 unfolding unless_zero_p passing
 both_finalize_p v =
     let i : ℕ = v.invoke in
     unless_zero_p v.state.0 (
-    unless_zero_p i (planned (passing v ▷ on_invoke (record { added = 0; state = state_id 0; autoforward = 0; at = i; finalize = suc (suc v.ids); filled = 0 }))))
+    unless_zero_p i (planned (passing v ▷ on_invoke (finalize_to i (suc v.ids)))))
 
 -- ---- transitions
 
-abbrev pub state_to : ℕ → ℕ → ℕ → ℕ → StatePlan
-state_to s h d x = record { at = state_id s; texts = h; initial = 0; doc = 0; parent = 0; parallel = 0; ends = 0; history = 0; donedata = d; filled = x }
+abbrev pub state_to : ℕ → Option Shape → Option ℕ → Option ℕ → StatePlan
+state_to s h d x = record { at = state_id s; texts = h; initial = None; doc = None; parent = None; parallel = None; ends = None; history = None; donedata = d; filled = x }
 
 abbrev pub initial_to : ℕ → ℕ → StatePlan
-initial_to s t = record { at = state_id s; texts = 0; initial = suc t; doc = 0; parent = 0; parallel = 0; ends = 0; history = 0; donedata = 0; filled = 0 }
+initial_to s t = record { at = state_id s; texts = None; initial = Some t; doc = None; parent = None; parallel = None; ends = None; history = None; donedata = None; filled = None }
+
+-- A transition with these texts and this type.
+abbrev pub new_transition : ℕ → ℕ → ℕ → ℕ → ℕ → ℕ → Option Shape → TransitionPlan
+new_transition t d s m w r h =
+    record { added = Some (record { number = transition_id t; doc = d; source = state_id s; mode = m; wildcard = w; content = region_id r; texts = h }); altered = None }
 
 -- Inside `initial` it is the state's initial; else it joins the state's transitions. r is its content, 0 until it ends.
 unfoldable pub transition_plan : Bool → ℕ → Seen → Heard → Plan
@@ -207,17 +246,15 @@ transition_plan in_initial r v q =
     let t : ℕ = suc v.ids in
     let s : ℕ = v.state.0 in
     idle_in (inside s t) v
-    ▷ on_transition (
-    record { number = transition_id t; doc = suc v.docs; source = state_id s; mode = q.mode; wildcard = q.wildcard; content = region_id r; texts = 1; at = 0; region = region_id 0 })
+    ▷ on_transition (new_transition t (suc v.docs) s q.mode q.wildcard r (Some S.First))
     ▷ on_region (one_region (suc t))
-    ▷ on_state (elim in_initial [ true ↦ initial_to s t | false ↦ no_state ])
+    ▷ on_state (elim in_initial [ true ↦ Some (initial_to s t) | false ↦ None ])
     ▷ on_members (
     record {
-      words = member list.events t q.events;
-      owner = t;
-      skip = 0;
-      one = elim in_initial [ true ↦ no_member | false ↦ member list.transitions s t ];
-      two = no_member;
+      words = Some (member L.Events t q.events);
+      targets = Some (record { owner = t; skip = 0 });
+      one = elim in_initial [ true ↦ None | false ↦ Some (member L.Transitions s t) ];
+      two = None;
     })
     ▷ on_open_regions (keeping 0)
 
@@ -243,14 +280,12 @@ unfolding transition_by whole_transition
 both_transition_p v q = transition_by (λ b. whole_transition b v q) v
 
 abbrev pub content_to : ℕ → ℕ → TransitionPlan
-content_to i r = record { number = transition_id 0; doc = 0; source = state_id 0; mode = 0; wildcard = 0; content = region_id 0; texts = 0; at = i; region = region_id r }
+content_to i r = record { added = None; altered = Some (record { at = i; content = region_id r }) }
 
 unfoldable pub end_transition_p : Seen → Planned
-unfolding closing_p unless_zero_p ended
+unfolding closed_p unless_zero_p ended
 end_transition_p v =
-    closing_p v (
-    unless_zero_p v.transition.0 (
-    planned (ended v ▷ on_transition (content_to v.place v.current.0))))
+    closing_p v (λ x. unless_zero_p v.transition.0 (planned (ended x v ▷ on_transition (content_to v.place v.current.0))))
 
 -- ---- initial, donedata, data, invoke
 
@@ -260,19 +295,19 @@ initial_p v = unless_zero_p v.state.0 (unless_initial_p v (only_nest_p v))
 
 unfoldable pub donedata_p : Seen → Planned
 unfolding unless_zero_p begun
-donedata_p v = unless_zero_p v.state.0 (planned (begun v ▷ on_state (state_to v.state.0 1 (suc (suc v.parameters)) 1)))
+donedata_p v = unless_zero_p v.state.0 (planned (begun v ▷ on_state (Some (state_to v.state.0 (Some S.First) (Some (suc v.parameters)) (Some 0)))))
 
 -- With expr, or with the trimmed text, which may be empty.
-unfoldable pub value_of : Heard → ℕ
-value_of q = elim q.expr [ true ↦ 0 | false ↦ 1 ]
+unfoldable pub value_of : Heard → Shape
+value_of q = elim q.expr [ true ↦ S.First | false ↦ S.Second ]
 
 unfoldable pub data_p : Seen → Heard → Planned
 unfolding unless_zero_p begun value_of
 data_p v q =
     unless_zero_p v.state.0 (
     elim (eqb q.found (suc v.datums)) [
-      | true ↦ planned (begun v ▷ on_datum (record { added = 1; state = v.state; at = 0; shape = value_of q }))
-      | false ↦ planned (begun v ▷ on_datum (record { added = 0; state = state_id 0; at = q.found; shape = value_of q }))
+      | true ↦ planned (begun v ▷ on_datum (record { added = Some (record { state = v.state; shape = value_of q }); altered = None }))
+      | false ↦ planned (begun v ▷ on_datum (record { added = None; altered = Some (record { at = q.found; shape = value_of q }) }))
     ])
 
 unfoldable pub invoke_p : Seen → Heard → Planned
@@ -280,8 +315,8 @@ unfolding unless_zero_p begun
 invoke_p v q =
     unless_zero_p v.state.0 (
     planned (
-    begun v ▷ on_invoke (record { added = 1; state = v.state; autoforward = q.forward; at = 0; finalize = 0; filled = 0 })
-    ▷ on_members (some_words list.invoke_names (suc v.invokes) q.names)))
+    begun v ▷ on_invoke (record { added = Some (record { state = v.state; autoforward = q.forward }); altered = None })
+    ▷ on_members (some_words L.InvokeNames (suc v.invokes) q.names)))
 
 -- ---- param and content
 
@@ -289,7 +324,7 @@ unfoldable pub by_parent_p : ℕ → Planned → Planned → Planned → Planned
 by_parent_p p send invoke donedata = elim (eqb p tag.send) [ true ↦ send | false ↦ elim (eqb p tag.invoke) [ true ↦ invoke | false ↦ donedata ] ]
 
 unfoldable pub of_last_send_p : Seen → Planned → Planned
-of_last_send_p v p = elim (eqb v.kind entry_kind.send) [ true ↦ p | false ↦ refused 2 ]
+of_last_send_p v p = elim (eqb v.kind (entry_number E.Send)) [ true ↦ p | false ↦ refused 2 ]
 
 unfoldable pub of_last_invoke_p : Seen → Planned → Planned
 unfolding unless_zero_p
@@ -299,21 +334,21 @@ unfoldable pub of_donedata_p : Seen → Planned → Planned
 unfolding unless_zero_p
 of_donedata_p v p = unless_zero_p v.state.0 (unless_zero_p v.donedata p)
 
-unfoldable pub parameter_p : ℕ → ℕ → Seen → Planned
+unfoldable pub parameter_p : OwnerKind → ℕ → Seen → Planned
 unfolding begun
-parameter_p k o v = planned (begun v ▷ on_parameter (record { kind = k; owner = o }))
+parameter_p k o v = planned (begun v ▷ on_parameter (Some (record { kind = k; owner = o })))
 
 unfoldable pub param_p : Seen → Planned
 unfolding by_parent_p unless_zero_p of_last_send_p of_last_invoke_p of_donedata_p parameter_p
 param_p v =
-    by_parent_p v.parent (unless_zero_p v.current.0 (of_last_send_p v (parameter_p owner_kind.send v.entry v)))
-    (of_last_invoke_p v (parameter_p owner_kind.invoke v.invoke v)) (of_donedata_p v (parameter_p owner_kind.donedata v.state.0 v))
+    by_parent_p v.parent (unless_zero_p v.current.0 (of_last_send_p v (parameter_p O.Send v.entry v)))
+    (of_last_invoke_p v (parameter_p O.Invoke v.invoke v)) (of_donedata_p v (parameter_p O.Donedata v.state.0 v))
 
 unfoldable pub send_content_p : Seen → Heard → Planned
 unfolding only_nest_p begun
 send_content_p v q =
-    elim (q.expr || eqb q.kind kind.whole) [
-      | true ↦ planned (begun v ▷ on_entry (record { kind = 0; region = region_id 0; state = state_id 0; content = region_id 0; shape = 0; at = v.entry; other = 0; filled = 1 }))
+    elim (q.expr || q.whole) [
+      | true ↦ planned (begun v ▷ on_entry (entry_filled v.entry))
       | false ↦ only_nest_p v
     ]
 
@@ -325,25 +360,25 @@ unfoldable pub content_p : Seen → Heard → Planned
 unfolding by_parent_p content_of_send_p of_last_invoke_p of_donedata_p begun
 content_p v q =
     by_parent_p v.parent (content_of_send_p v q)
-    (of_last_invoke_p v (planned (begun v ▷ on_invoke (record { added = 0; state = state_id 0; autoforward = 0; at = v.invoke; finalize = 0; filled = 1 }))))
-    (of_donedata_p v (planned (begun v ▷ on_state (state_to v.state.0 3 0 2))))
+    (of_last_invoke_p v (planned (begun v ▷ on_invoke (invoke_filled v.invoke))))
+    (of_donedata_p v (planned (begun v ▷ on_state (Some (state_to v.state.0 (Some S.Third) None (Some 1))))))
 
 -- ---- states
 
-unfoldable pub parent_to : ℕ → ℕ
-parent_to zero = 0
-parent_to (suc p) = suc (suc p)
+unfoldable pub parent_to : ℕ → Option ℕ
+parent_to zero = None
+parent_to (suc p) = Some (suc p)
 
 -- x is the state as it is declared: its parent, whether it is parallel, final or a history, and what it joins.
-unfoldable pub declared_row : ℕ → ℕ → ℕ → Declared → StatePlan
+unfoldable pub declared_row : ℕ → Option ℕ → ℕ → Declared → StatePlan
 declared_row s i d x =
-    record { at = state_id s; texts = 0; initial = i; doc = d; parent = x.parent; parallel = x.parallel; ends = x.ends; history = x.history; donedata = 0; filled = 0 }
+    record { at = state_id s; texts = None; initial = i; doc = Some d; parent = x.parent; parallel = x.parallel; ends = x.ends; history = x.history; donedata = None; filled = None }
 
 -- With an `initial` attribute or without: "state, then its `initial` transition (internal, doc id, targets made as needed), then the state's doc id."
 unfoldable pub initial_row : Bool → ℕ → Seen → TransitionPlan
 initial_row b s v =
     elim b [
-      | true ↦ record { number = transition_id (suc v.ids); doc = suc v.docs; source = state_id s; mode = internal; wildcard = 0; content = region_id 0; texts = 0; at = 0; region = region_id 0 }
+      | true ↦ new_transition (suc v.ids) (suc v.docs) s internal 0 0 None
       | false ↦ no_transition
     ]
 
@@ -353,43 +388,43 @@ docs_after b d = elim b [ true ↦ suc (suc d) | false ↦ suc d ]
 unfoldable pub ids_after : Bool → ℕ → ℕ
 ids_after b i = elim b [ true ↦ suc i | false ↦ i ]
 
-unfoldable pub initial_if : Bool → ℕ → ℕ
-initial_if b i = elim b [ true ↦ suc (suc i) | false ↦ 0 ]
+unfoldable pub initial_if : Bool → ℕ → Option ℕ
+initial_if b i = elim b [ true ↦ Some (suc i) | false ↦ None ]
 
-unfoldable pub declared_members : Bool → MemberPlan → Seen → MembersPlan
-declared_members b x v = record { words = no_member; owner = elim b [ true ↦ suc v.ids | false ↦ 0 ]; skip = 1; one = x; two = no_member }
+unfoldable pub declared_members : Bool → Option MemberPlan → Seen → MembersPlan
+declared_members b x v = record { words = None; targets = elim b [ true ↦ Some (record { owner = suc v.ids; skip = 1 }) | false ↦ None ]; one = x; two = None }
 
 unfoldable pub declared_plan : Bool → Declared → Seen → Heard → Plan
 unfolding idle_in declared_row initial_row docs_after ids_after initial_if declared_members
 declared_plan b x v q =
     let s : ℕ = q.own.0 in
     idle_in (inside s v.transition.0) v
-    ▷ on_state (declared_row s (initial_if b v.ids) (suc (docs_after b v.docs)) x)
+    ▷ on_state (Some (declared_row s (initial_if b v.ids) (docs_after b v.docs) x))
     ▷ on_transition (initial_row b s v)
     ▷ on_members (declared_members b x.joins v)
     ▷ on_counters (counting v.current.0 (ids_after b v.ids) (docs_after b v.docs))
 
-unfoldable pub as_child : ℕ → ℕ → Seen → Heard → Declared
+unfoldable pub as_child : Option ℕ → Option ℕ → Seen → Heard → Declared
 unfolding parent_to child_member
 as_child par fin v q =
     let p : ℕ = v.state.0 in
-    record { parent = parent_to p; parallel = par; ends = fin; history = 0; joins = child_member v.joined p q.own.0 }
+    record { parent = parent_to p; parallel = par; ends = fin; history = None; joins = child_member v.joined p q.own.0 }
 
 unfoldable pub state_p : Seen → Heard → Planned
 unfolding declared_plan as_child
-state_p v q = planned (declared_plan q.initial (as_child 0 0 v q) v q)
+state_p v q = planned (declared_plan q.initial (as_child None None v q) v q)
 
 unfoldable pub parallel_p : Seen → Heard → Planned
 unfolding declared_plan as_child
-parallel_p v q = planned (declared_plan q.initial (as_child 2 0 v q) v q)
+parallel_p v q = planned (declared_plan q.initial (as_child (Some 1) None v q) v q)
 
 unfoldable pub final_p : Seen → Heard → Planned
 unfolding declared_plan as_child
-final_p v q = planned (declared_plan q.initial (as_child 0 2 v q) v q)
+final_p v q = planned (declared_plan q.initial (as_child None (Some 1) v q) v q)
 
-unfoldable pub history_member : ℕ → ℕ → MemberPlan
-history_member zero s = no_member
-history_member (suc p) s = member list.history (suc p) s
+unfoldable pub history_member : ℕ → ℕ → Option MemberPlan
+history_member zero s = None
+history_member (suc p) s = Some (member L.History (suc p) s)
 
 unfoldable pub history_p : Seen → Heard → Planned
 unfolding declared_plan history_member
@@ -397,26 +432,26 @@ history_p v q =
     planned (
     declared_plan q.initial (
     record {
-      parent = suc v.state.0;
-      parallel = 0;
-      ends = 0;
-      history = suc q.history;
+      parent = Some v.state.0;
+      parallel = None;
+      ends = None;
+      history = Some q.history;
       joins = history_member v.state.0 q.own.0;
     }) v q)
 
-unfoldable pub binding_to : Heard → ℕ
-binding_to q = elim q.binds [ true ↦ suc q.binding | false ↦ 0 ]
+unfoldable pub binding_to : Heard → Option ℕ
+binding_to q = elim q.binds [ true ↦ Some q.binding | false ↦ None ]
 
 -- The chart's row as scxml begins it.
 abbrev pub chart_of : Heard → ChartPlan
-chart_of q = record { at = 1; binding = binding_to q; root = suc q.own.0; script = 0 }
+chart_of q = record { binding = binding_to q; root = Some q.own.0; script = None }
 
 unfoldable pub not_child : Declared
-not_child = record { parent = 0; parallel = 0; ends = 0; history = 0; joins = no_member }
+not_child = record { parent = None; parallel = None; ends = None; history = None; joins = None }
 
 unfoldable pub scxml_plan : Seen → Heard → Plan
 unfolding declared_plan not_child binding_to
-scxml_plan v q = declared_plan q.initial not_child v q ▷ on_chart (chart_of q)
+scxml_plan v q = declared_plan q.initial not_child v q ▷ on_chart (Some (chart_of q))
 
 unfoldable pub scxml_p : Seen → Heard → Planned
 unfolding scxml_plan
@@ -425,14 +460,14 @@ scxml_p v q = planned (scxml_plan v q)
 -- ---- the default initial
 
 abbrev pub default_row : ℕ → ℕ → TransitionPlan
-default_row t s = record { number = transition_id t; doc = 0; source = state_id s; mode = 0; wildcard = 0; content = region_id 0; texts = 0; at = 0; region = region_id 0 }
+default_row t s = new_transition t 0 s 0 0 0 None
 
 unfoldable pub default_to : ℕ → ℕ → Seen → Plan
 unfolding idle_in
 default_to s zero v = idle_in (inside 0 0) v
 default_to s (suc f) v =
     let t : ℕ = suc v.ids in
-    idle_in (inside 0 0) v ▷ on_transition (default_row t s) ▷ on_state (initial_to s t) ▷ on_members (one_member list.targets t (suc f)) ▷ on_counters (counting v.current.0 t v.docs)
+    idle_in (inside 0 0) v ▷ on_transition (default_row t s) ▷ on_state (Some (initial_to s t)) ▷ on_members (one_member L.Targets t (suc f)) ▷ on_counters (counting v.current.0 t v.docs)
 
 -- s has the initial z and the first child f.
 unfoldable pub default_p : ℕ → ℕ → ℕ → Seen → Planned
@@ -455,10 +490,10 @@ unfolding declared_plan declared_row
 defaulted zero x v q = declared_plan false x v q
 defaulted (suc f) x v q =
     let t : ℕ = suc v.ids in
-    declared_plan false x v q ▷ on_transition (default_row t q.own.0) ▷ on_state (declared_row q.own.0 (suc t) (suc (suc v.docs)) x)
-    ▷ on_members (record { words = no_member; owner = 0; skip = 1; one = x.joins; two = member list.targets t (suc f) }) ▷ on_counters (counting v.current.0 t (suc v.docs))
+    declared_plan false x v q ▷ on_transition (default_row t q.own.0) ▷ on_state (Some (declared_row q.own.0 (Some t) (suc v.docs) x))
+    ▷ on_members (record { words = None; targets = None; one = x.joins; two = Some (member L.Targets t (suc f)) }) ▷ on_counters (counting v.current.0 t (suc v.docs))
 
-unfoldable pub both_declared : ChartPlan → Bool → Declared → Seen → Heard → Planned
+unfoldable pub both_declared : Option ChartPlan → Bool → Declared → Seen → Heard → Planned
 unfolding unless_zero_p declared_plan defaulted
 both_declared ch b x v q =
     unless_zero_p q.own.0 (
@@ -469,11 +504,11 @@ both_declared ch b x v q =
 
 unfoldable pub both_state_p : Seen → Heard → Planned
 unfolding both_declared as_child
-both_state_p v q = both_declared no_chart q.initial (as_child 0 0 v q) v q
+both_state_p v q = both_declared None q.initial (as_child None None v q) v q
 
 unfoldable pub both_scxml_p : Seen → Heard → Planned
 unfolding both_declared not_child binding_to
-both_scxml_p v q = both_declared (chart_of q) q.initial not_child v q
+both_scxml_p v q = both_declared (Some (chart_of q)) q.initial not_child v q
 
 -- ---- by the element's number
 
@@ -503,12 +538,12 @@ starts_p =
     ∷ plain_p region_p
     ∷ plain_p region_p
     ∷ send_p
-    ∷ plain_p (entry_p 0 entry_kind.raise)
-    ∷ plain_p (entry_p 0 entry_kind.cancel)
+    ∷ plain_p (entry_p S.First E.Raise)
+    ∷ plain_p (entry_p S.First E.Cancel)
     ∷ log_p
     ∷ assign_p
-    ∷ plain_p (block_p tag.if entry_kind.if)
-    ∷ plain_p (block_p tag.foreach entry_kind.foreach)
+    ∷ plain_p (block_p T.If E.If)
+    ∷ plain_p (block_p T.Foreach E.Foreach)
     ∷ plain_p script_p
     ∷ []
 
@@ -533,15 +568,15 @@ boths_p =
     ∷ plain_p param_p
     ∷ content_p
     ∷ both_transition_p
-    ∷ plain_p (both_listed_p list.onentry)
-    ∷ plain_p (both_listed_p list.onexit)
+    ∷ plain_p (both_listed_p L.Onentry)
+    ∷ plain_p (both_listed_p L.Onexit)
     ∷ send_p
-    ∷ plain_p (entry_p 0 entry_kind.raise)
-    ∷ plain_p (entry_p 0 entry_kind.cancel)
+    ∷ plain_p (entry_p S.First E.Raise)
+    ∷ plain_p (entry_p S.First E.Cancel)
     ∷ log_p
     ∷ assign_p
-    ∷ plain_p (both_block_p entry_kind.if)
-    ∷ plain_p (both_block_p entry_kind.foreach)
+    ∷ plain_p (both_block_p E.If)
+    ∷ plain_p (both_block_p E.Foreach)
     ∷ plain_p script_p
     ∷ []
 
@@ -569,8 +604,8 @@ ends_p =
     ∷ rest_p
     ∷ rest_p
     ∷ end_transition_p
-    ∷ end_listed_p list.onentry
-    ∷ end_listed_p list.onexit
+    ∷ end_listed_p L.Onentry
+    ∷ end_listed_p L.Onexit
     ∷ rest_p
     ∷ rest_p
     ∷ rest_p
@@ -592,14 +627,14 @@ unfoldable pub end_p : ℕ → Seen → Planned
 unfolding ends_p rest_p
 end_p g = get_or ends_p g rest_p
 
--- THE PLAN of an event, by its kind.
-unfoldable pub plan_by : ℕ → Seen → Heard → Planned
+-- THE PLAN of an event, by its kind and its element.
+unfoldable pub plan_by : ℕ → ℕ → Seen → Heard → Planned
 unfolding start_p both_p end_p
-plan_by zero v q = start_p q.tag v q
-plan_by (suc zero) v q = both_p q.tag v q
-plan_by (suc (suc zero)) v q = both_p q.tag v q
-plan_by (suc (suc (suc k))) v q = end_p q.tag v
+plan_by zero g v q = start_p g v q
+plan_by (suc zero) g v q = both_p g v q
+plan_by (suc (suc zero)) g v q = both_p g v q
+plan_by (suc (suc (suc k))) g v q = end_p g v
 
 unfoldable pub plan_of : Numbers → Look → Planned
 unfolding plan_by seen heard
-plan_of n l = plan_by l.kind (seen n l) (heard l)
+plan_of n l = plan_by l.kind l.tag (seen n l) (heard l)

@@ -1,28 +1,30 @@
--- All that a plan needs of the store, as numbers: each is one read of a table before the event. `decide` sees this and the look, and no table.
-use Rattle.std.specs.Prelude.{ℕ, zero, suc, Bool, true, false, ◌||◌, ◌&&◌, [], ◌∷◌, length, get_or, eqb}
+-- All that a plan needs of the store: each is one read of a table before the event. `decide` sees this and the look, and no table.
+use Rattle.std.specs.Prelude.{ℕ, zero, suc, Bool, true, false, Option, Some, None, ◌||◌, ◌&&◌, [], ◌∷◌, length, get_or, eqb}
 use Rattle.definition.specs.Elements.{tag}
 use Rattle.definition.specs.Rows.{Table, table, list, entry, state, member, open_region, num, row_of, same_list, Numbers, table_of, current_state, current_transition, parent_tag, root}
 use Rattle.definition.specs.Look.{Look}
+use Rattle.definition.specs.Codes.{list_number}
+use Rattle.definition.specs.declared.codes.ListKind.TheVariants as L
 use Rattle.definition.specs.States.{own_state, is_child, initial_of}
 use Rattle.definition.specs.Actions.{place_of_number, last_entry, last_invoke, Walk, meets, nowhere, no_if, walk_from}
 use Rattle.plan.specs.declared.MemberPlan.{MemberPlan}
 use Rattle.plan.specs.declared.Closing.{Closing}
 use Rattle.plan.specs.declared.Walked.{Walked}
+use Rattle.plan.specs.declared.Walked.TheVariants as W
 use Rattle.plan.specs.declared.Seen.{Seen}
 use Rattle.plan.specs.Ids.{state_id, transition_id, region_id}
-use Rattle.plan.specs.Plan.{no_member}
 
 -- ---- reads
 
 -- k of the open regions are left: "closing a region recurses over the open regions, their number falling."
-unfoldable pub closed_at : ℕ → Table → ℕ → ℕ → Closing
-closed_at g rs zero c = elim c [ zero ↦ record { met = 0; current = region_id 0; kept = 0 } | suc i ↦ record { met = 1; current = region_id 0; kept = 0 } ]
+unfoldable pub closed_at : ℕ → Table → ℕ → ℕ → Option Closing
+closed_at g rs zero c = elim c [ zero ↦ None | suc i ↦ Some (record { current = region_id 0; kept = 0 }) ]
 closed_at g rs (suc k) c =
     elim c [
-      | zero ↦ record { met = 0; current = region_id 0; kept = 0 }
+      | zero ↦ None
       | suc i ↦
           elim (eqb (num (get_or rs k []) open_region.tag) g) [
-            | true ↦ record { met = 1; current = region_id (num (get_or rs k []) open_region.region); kept = k }
+            | true ↦ Some (record { current = region_id (num (get_or rs k []) open_region.region); kept = k })
             | false ↦ closed_at g rs k (num (get_or rs k []) open_region.region)
           ]
     ]
@@ -32,13 +34,14 @@ unfoldable pub closes : ℕ → ℕ
 closes g = elim (eqb g tag.else || eqb g tag.elseif) [ true ↦ tag.if | false ↦ g ]
 
 unfoldable pub walked_as : Walk → Walked
-walked_as (meets e) = record { met = 1; at = e }
-walked_as nowhere = record { met = 1; at = 0 }
-walked_as no_if = record { met = 0; at = 0 }
+walked_as (meets e) = W.Met e
+walked_as nowhere = W.Nowhere
+walked_as no_if = W.NoIf
 
-unfoldable pub walk_in : Numbers → Closing → Walked
+unfoldable pub walk_in : Numbers → Option Closing → Walked
 unfolding walk_from walked_as
-walk_in n x = elim x.met [ zero ↦ record { met = 0; at = 0 } | suc i ↦ walked_as (walk_from n x.current.0) ]
+walk_in n None = W.NoIf
+walk_in n (Some x) = walked_as (walk_from n x.current.0)
 
 -- The first child of a state; d if it has none.
 unfoldable pub first_child_or : ℕ → ℕ → Table → ℕ
@@ -47,13 +50,14 @@ first_child_or d s [] = d
 first_child_or d s (m ∷ ms) = elim (same_list list.children s m) [ true ↦ num m member.value | false ↦ first_child_or d s ms ]
 
 -- A state joins its parent's children, once.
-unfoldable pub child_member : Bool → ℕ → ℕ → MemberPlan
-child_member is_one zero s = no_member
-child_member is_one (suc p) s = elim is_one [ true ↦ no_member | false ↦ record { list = list.children; owner = suc p; value = s } ]
+unfoldable pub child_member : Bool → ℕ → ℕ → Option MemberPlan
+child_member is_one zero s = None
+child_member is_one (suc p) s = elim is_one [ true ↦ None | false ↦ Some (record { list = L.Children; owner = suc p; value = s }) ]
 
 -- What a member would be as the first child of s: `<state id="a"><state id="a"/>`.
-unfoldable pub joined : MemberPlan → ℕ → ℕ
-joined j s = elim (eqb j.list list.children && eqb j.owner s) [ true ↦ j.value | false ↦ 0 ]
+unfoldable pub joined : Option MemberPlan → ℕ → ℕ
+joined None s = 0
+joined (Some j) s = elim (eqb (list_number j.list) list.children && eqb j.owner s) [ true ↦ j.value | false ↦ 0 ]
 
 -- The first child that a state would have when it has begun.
 unfoldable pub own_first : Numbers → Look → ℕ
@@ -67,7 +71,7 @@ own_first n l =
 unfoldable pub seen : Numbers → Look → Seen
 unfolding current_state current_transition parent_tag closed_at closes walk_in last_entry last_invoke place_of_number initial_of row_of first_child_or root is_child own_state own_first
 seen n l =
-    let x : Closing = closed_at (closes l.tag) (table_of n table.open_regions) (length (table_of n table.open_regions)) n.current in
+    let x : Option Closing = closed_at (closes l.tag) (table_of n table.open_regions) (length (table_of n table.open_regions)) n.current in
     record {
       state = state_id (current_state n);
       transition = transition_id (current_transition n);

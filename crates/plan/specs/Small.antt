@@ -4,7 +4,7 @@ use Rattle.definition.specs.declared.Position.{Position}
 use Rattle.plan.specs.declared.Seen.{Seen}
 use Rattle.plan.specs.declared.Heard.{Heard}
 use Rattle.plan.specs.declared.Plan.{Plan}
-use Rattle.plan.specs.Decided.{unless}
+use Rattle.plan.specs.Decided.{words_added}
 
 -- Of what is seen and heard.
 abbrev pub Small : Seen → Heard → Type 0
@@ -20,8 +20,8 @@ Counted n =
 
 -- Of what an event brings: references to states, new states, a charge; and words.
 unfoldable pub words_on : Plan → ℕ
-unfolding unless
-words_on p = unless p.members.words.list p.members.words.value
+unfolding words_added
+words_on p = words_added p.members.words
 
 abbrev pub Brought : ℕ → ℕ → ℕ → Plan → Type 0
 Brought refs new charge p = (refs < 65536) × (new < 65536) × (charge < 65536) × (words_on p < 65536)

@@ -1,148 +1,199 @@
-// What one event does, as numbers: a group for each table of the chart; and all that is seen of the store to decide it. The codes of plans, by name.
+// What one event does: a group for each table of the chart; and all that is seen of the store to decide it.
 
 #![tactic(auto)]
 
+ghost use Rattle.std.specs.Prelude.{◌≡◌};
+ghost use Rattle.plan.specs.Ids.{shape_number, mode_number};
+
+use definition::codes::{EntryKind, Kind, ListKind, OwnerKind, Tag};
 use definition::{RegionId, StateId, TransitionId};
 
-/// A column that is given as one more than its new value: kept, or set to 1.
-#[derive(Clone, Copy)]
-pub struct Put {}
-
-impl Put {
-    pub const KEEP: u32 = 0;
-
-    pub const SET: u32 = 2;
+/// An event's kind and its element.
+#[derive(Clone, Copy, PartialEq, Eq)]
+pub struct Element {
+    pub kind: Kind,
+    pub tag: Tag,
 }
 
-/// Shapes of an element's texts: its attributes, or its text in the place of expr.
-#[derive(Clone, Copy)]
-pub struct Shape {}
+/// Which of the rows that an element's texts can fill: most elements have one; the others say below what their second and third are.
+#[derive(Clone, Copy, PartialEq, Eq)]
+pub enum Shape {
+    First,
+    /// Its text in the place of expr; a content in an invoke.
+    Second,
+    /// A content in a state.
+    Third,
+}
 
 impl Shape {
-    pub const PLAIN: u32 = 0;
-
-    pub const TEXT: u32 = 1;
-}
-
-/// Texts of a state's row, one more than the shape: donedata begins empty, content in donedata.
-#[derive(Clone, Copy)]
-pub struct StateTexts {}
-
-impl StateTexts {
-    pub const DONEDATA: u32 = 1;
-
-    pub const CONTENT: u32 = 3;
+    /// Its number in definitions.
+    pub fn number(self) -> u32
+        ensures { result ≡ shape_number self }
+    {
+        self as u32
+    }
 }
 
 /// Types of a transition.
-#[derive(Clone, Copy)]
-pub struct TransitionType {}
+#[derive(Clone, Copy, PartialEq, Eq)]
+pub enum TransitionType {
+    External,
+    Internal,
+}
 
 impl TransitionType {
-    pub const INTERNAL: u32 = 1;
+    /// Its number in rows and definitions.
+    pub fn number(self) -> u32
+        ensures { result ≡ mode_number self }
+    {
+        self as u32
+    }
 }
 
-/// at: 1, or 0 where the row stays. root brings the element's texts with it.
+/// Columns of the chart's row: what each is afterwards, none where it stays. The root brings the element's texts with it.
 #[derive(Clone, Copy, Default)]
 pub struct ChartPlan {
-    pub at: u32,
-    pub binding: u32,
-    pub root: u32,
-    pub script: u32,
+    pub binding: Option<u32>,
+    pub root: Option<u32>,
+    pub script: Option<u32>,
 }
 
-/// One row, `at`. Every column is one more than its new value; texts is one more than the shape.
+/// One row, `at`: the element's texts in it, and what each column is afterwards, none where it stays.
 #[derive(Clone, Copy, Default)]
 pub struct StatePlan {
     pub at: StateId,
-    pub texts: u32,
-    pub initial: u32,
-    pub doc: u32,
-    pub parent: u32,
-    pub parallel: u32,
-    pub ends: u32,
-    pub history: u32,
-    pub donedata: u32,
-    pub filled: u32,
+    pub texts: Option<Shape>,
+    pub initial: Option<u32>,
+    pub doc: Option<u32>,
+    pub parent: Option<u32>,
+    pub parallel: Option<u32>,
+    pub ends: Option<u32>,
+    pub history: Option<u32>,
+    pub donedata: Option<u32>,
+    pub filled: Option<u32>,
 }
 
-/// A row added (number 0: none; texts 1: with the element's cond), and one that gets its content.
-#[derive(Clone, Copy, Default)]
-pub struct TransitionPlan {
+/// mode and wildcard: numbers, as the row gets them (C lends rows of numbers).
+#[derive(Clone, Copy)]
+pub struct NewTransition {
     pub number: TransitionId,
     pub doc: u32,
     pub source: StateId,
     pub mode: u32,
     pub wildcard: u32,
     pub content: RegionId,
-    pub texts: u32,
-    pub at: u32,
-    pub region: RegionId,
+    pub texts: Option<Shape>,
 }
 
-/// Up to two regions, by their numbers.
+/// The row `at` gets its content.
+#[derive(Clone, Copy)]
+pub struct TransitionChange {
+    pub at: u32,
+    pub content: RegionId,
+}
+
+#[derive(Clone, Copy, Default)]
+pub struct TransitionPlan {
+    pub added: Option<NewTransition>,
+    pub altered: Option<TransitionChange>,
+}
+
+/// Up to two regions.
 #[derive(Clone, Copy, Default)]
 pub struct RegionPlan {
-    pub one: RegionId,
-    pub two: RegionId,
+    pub one: Option<RegionId>,
+    pub two: Option<RegionId>,
 }
 
-/// A row added (kind 0: none), and one altered: its else region, or its content (filled 1).
-#[derive(Clone, Copy, Default)]
-pub struct EntryPlan {
-    pub kind: u32,
+#[derive(Clone, Copy)]
+pub struct NewEntry {
+    pub kind: EntryKind,
     pub region: RegionId,
     pub state: StateId,
     pub content: RegionId,
-    pub shape: u32,
-    pub at: u32,
-    pub other: u32,
-    pub filled: u32,
+    pub shape: Shape,
 }
 
-/// A row added (added 0: none), and one altered: its finalize, or its content (filled 1).
+/// The row `at` gets its else region, or is filled by a content.
+#[derive(Clone, Copy)]
+pub struct EntryChange {
+    pub at: u32,
+    pub other: Option<u32>,
+    pub filled: bool,
+}
+
 #[derive(Clone, Copy, Default)]
-pub struct InvokePlan {
-    pub added: u32,
+pub struct EntryPlan {
+    pub added: Option<NewEntry>,
+    pub altered: Option<EntryChange>,
+}
+
+#[derive(Clone, Copy)]
+pub struct NewInvoke {
     pub state: StateId,
     pub autoforward: u32,
-    pub at: u32,
-    pub finalize: u32,
-    pub filled: u32,
 }
 
-/// A row added (added 0: none), or one altered, with the shape.
+/// The row `at` gets its finalize, or is filled by a content.
+#[derive(Clone, Copy)]
+pub struct InvokeChange {
+    pub at: u32,
+    pub finalize: Option<u32>,
+    pub filled: bool,
+}
+
+#[derive(Clone, Copy, Default)]
+pub struct InvokePlan {
+    pub added: Option<NewInvoke>,
+    pub altered: Option<InvokeChange>,
+}
+
+#[derive(Clone, Copy)]
+pub struct NewDatum {
+    pub state: StateId,
+    pub shape: Shape,
+}
+
+/// The row `at` gets another value.
+#[derive(Clone, Copy)]
+pub struct DatumChange {
+    pub at: u32,
+    pub shape: Shape,
+}
+
 #[derive(Clone, Copy, Default)]
 pub struct DatumPlan {
-    pub added: u32,
-    pub state: StateId,
-    pub at: u32,
-    pub shape: u32,
+    pub added: Option<NewDatum>,
+    pub altered: Option<DatumChange>,
 }
 
-/// kind 0: none.
-#[derive(Clone, Copy, Default)]
+#[derive(Clone, Copy)]
 pub struct ParameterPlan {
-    pub kind: u32,
+    pub kind: OwnerKind,
     pub owner: u32,
 }
 
-/// list 0: none.
-#[derive(Clone, Copy, Default)]
+#[derive(Clone, Copy)]
 pub struct MemberPlan {
-    pub list: u32,
+    pub list: ListKind,
     pub owner: u32,
     pub value: u32,
 }
 
-/// In this order: words (their number as value), the event's states as targets but for the first skip (owner 0: none), a member, another one.
-#[derive(Clone, Copy, Default)]
-pub struct MembersPlan {
-    pub words: MemberPlan,
+/// The event's states as targets of the transition `owner`, but for the first `skip`.
+#[derive(Clone, Copy)]
+pub struct TargetPlan {
     pub owner: u32,
     pub skip: u32,
-    pub one: MemberPlan,
-    pub two: MemberPlan,
+}
+
+/// In this order: words (their number as value), targets, a member, another one.
+#[derive(Clone, Copy, Default)]
+pub struct MembersPlan {
+    pub words: Option<MemberPlan>,
+    pub targets: Option<TargetPlan>,
+    pub one: Option<MemberPlan>,
+    pub two: Option<MemberPlan>,
 }
 
 /// The state and the transition that are current inside the element, if it is open afterwards.
@@ -152,14 +203,19 @@ pub struct OpenPlan {
     pub transition: TransitionId,
 }
 
-/// kept of the open regions stay, then up to two come (tag 0: none).
+/// A region that an element leaves open.
+#[derive(Clone, Copy)]
+pub struct OpenRegion {
+    pub region: RegionId,
+    pub tag: Tag,
+}
+
+/// kept of the open regions stay, then up to two come.
 #[derive(Clone, Copy, Default)]
 pub struct OpenRegionPlan {
     pub kept: u32,
-    pub region: RegionId,
-    pub tag: u32,
-    pub inner: RegionId,
-    pub by: u32,
+    pub one: Option<OpenRegion>,
+    pub two: Option<OpenRegion>,
 }
 
 #[derive(Clone, Copy, Default)]
@@ -171,46 +227,54 @@ pub struct CounterPlan {
 
 #[derive(Clone, Copy, Default)]
 pub struct Plan {
-    pub chart: ChartPlan,
-    pub states: StatePlan,
+    pub chart: Option<ChartPlan>,
+    pub states: Option<StatePlan>,
     pub transitions: TransitionPlan,
     pub regions: RegionPlan,
     pub entries: EntryPlan,
     pub invokes: InvokePlan,
     pub datums: DatumPlan,
-    pub parameters: ParameterPlan,
+    pub parameters: Option<ParameterPlan>,
     pub members: MembersPlan,
     pub opened: OpenPlan,
     pub pending: OpenRegionPlan,
     pub counters: CounterPlan,
 }
 
+/// All that an accepted event does: its plan, whether it draws a name, and what it takes of the text charge.
+#[derive(Clone, Copy)]
+pub struct Effect {
+    pub plan: Plan,
+    pub made: bool,
+    pub charge: u32,
+}
+
 /// A state as it is declared: its columns, and what it joins.
 #[derive(Clone, Copy, Default)]
 pub struct Declared {
-    pub parent: u32,
-    pub parallel: u32,
-    pub ends: u32,
-    pub history: u32,
-    pub joins: MemberPlan,
+    pub parent: Option<u32>,
+    pub parallel: Option<u32>,
+    pub ends: Option<u32>,
+    pub history: Option<u32>,
+    pub joins: Option<MemberPlan>,
 }
 
-/// A region closed: met 0 where no region is current; kept of the open regions are left, and current goes on.
+/// A region closed: kept of the open regions are left, and current goes on.
 #[derive(Clone, Copy)]
 pub struct Closing {
-    pub met: u32,
     pub current: RegionId,
     pub kept: u32,
 }
 
-/// The else walk: met 0 where a region has no if; at is the entry, 0 where the walk does not start.
+/// The else walk: a region without an if, no walk, or the entry of the if that was met.
 #[derive(Clone, Copy)]
-pub struct Walked {
-    pub met: u32,
-    pub at: u32,
+pub enum Walked {
+    NoIf,
+    Nowhere,
+    Met(u32),
 }
 
-/// All that is seen of the store.
+/// All that is seen of the store; parent and kind are numbers, as the rows have them (C lends rows of numbers). closed is none where no region is current.
 #[derive(Clone, Copy)]
 pub struct Seen {
     pub state: StateId,
@@ -224,7 +288,7 @@ pub struct Seen {
     pub invokes: u32,
     pub datums: u32,
     pub parameters: u32,
-    pub closed: Closing,
+    pub closed: Option<Closing>,
     pub walk: Walked,
     pub entry: u32,
     pub kind: u32,
@@ -241,11 +305,10 @@ pub struct Seen {
     pub eldest: StateId,
 }
 
-/// What the event says, as numbers: the look without its texts and lists.
+/// What the event says: the look without its texts and lists. whole: it has a text. Codes of words are numbers, as rows get them (C lends rows of numbers).
 #[derive(Clone, Copy)]
 pub struct Heard {
-    pub kind: u32,
-    pub tag: u32,
+    pub whole: bool,
     pub own: StateId,
     pub initial: bool,
     pub expr: bool,

@@ -6,6 +6,7 @@ use mathlib.Core.List.{List, [], ◌∷◌, ◌++◌, map}
 use native.Mathlib.Omega.{arith}
 use lib.Dec.{eqb, ltb}
 use lib.ListN.{length, get_or, drop, length-append, length-drop, length-map}
+use Rattle.std.specs.Prelude.{Option}
 use Rattle.definition.specs.Limits.{limits01}
 use Rattle.definition.specs.Text.{same, Span, Piece, emit, pieces, words_by, is_space, is_separator, stripped_piece, event_words, state_words, state_words_at, wildcard, is_true, lowered, place_in, str, trim}
 use Rattle.definition.specs.Elements.{key, tag_of, Role, name, names, masked, plain, role_of, codings, words_taken}
@@ -16,14 +17,14 @@ use Rattle.definition.specs.Change.{field_in, field_words, code_for, words_of}
 use Rattle.definition.specs.States.{own_state}
 use Rattle.definition.specs.Rules.{keeps_rules}
 use Rattle.definition.specs.Reader.{rows_in, position_of}
-use Rattle.kept.proofs.Codes.{field_code_lem}
 use Rattle.definition.proofs.Finds.{find_le, refs_length, cells_length}
 use Rattle.definition.proofs.Charges.{charge_covers}
+use Rattle.kept.proofs.Codes.{field_code_lem}
 use Rattle.plan.specs.declared.Plan.{Plan}
 use Rattle.plan.specs.declared.MemberPlan.{MemberPlan}
 use Rattle.plan.specs.Plan.{planned}
 use Rattle.plan.specs.Plans.{plan_by, plan_of}
-use Rattle.plan.specs.Decided.{unless}
+use Rattle.plan.specs.Decided.{words_added}
 use Rattle.plan.specs.Seen.{seen}
 use Rattle.plan.specs.Heard.{heard}
 use Rattle.plan.specs.Small.{Small, Counted, words_on, Brought}
@@ -173,16 +174,6 @@ brought_le : (g o : ℕ) (is : List Load) → length (names_brought g o is) ≤ 
 unfolding names_brought
 brought_le g o is = omega (arith, all_own_le g o is, all_words_le g o is, length-append (names_from own_name g o is) (names_from word_names g o is))
 
-unless_le : (k x : ℕ) → unless k x ≤ x
-unfolding unless
-unless_le zero x = omega arith
-unless_le (suc k) x = omega arith
-
-unless_none : (k x : ℕ) → k ≡ 0 → unless k x ≡ 0
-unfolding unless
-unless_none zero x e = refl
-unless_none (suc k) x e = absurd (omega arith)
-
 -- ---- a store that keeps the rules, and an event in form
 
 module _ (s : Store) (e : Event) (rules : keeps_rules limits01 s ≡ true) (form : in_form limits01 e ≡ true) where
@@ -271,20 +262,19 @@ module _ (s : Store) (e : Event) (rules : keeps_rules limits01 s ≡ true) (form
     omega (arith, F.charge),
   )
 
-  words_few : (h : ℕ) (m : MemberPlan) → Words h (heard l) m → unless m.list m.value ≤ 24603
-  unfolding heard
-  words_few h m (no_words a) = omega (arith, unless_none m.list m.value a)
-  words_few h m (events a b) = omega (arith, unless_le m.list m.value, b, look_words key.event)
-  words_few h m (names_of_send a b) = omega (arith, unless_le m.list m.value, b, look_words key.namelist)
-  words_few h m (names_of_invoke a b) = omega (arith, unless_le m.list m.value, b, look_words key.namelist)
+  words_few : (h : ℕ) (m : Option MemberPlan) → Words h (heard l) m → words_added m ≤ 24603
+  unfolding heard words_added
+  words_few h m (no_words a) = rw a (omega arith)
+  words_few h m (events x z a b) = rw a (omega (arith, b, look_words key.event))
+  words_few h m (names_of_send x z a b) = rw a (omega (arith, b, look_words key.namelist))
+  words_few h m (names_of_invoke x z a b) = rw a (omega (arith, b, look_words key.namelist))
 
-  plan_words : (k : ℕ) (p : Plan) → plan_by k (seen n l) (heard l) ≡ planned p → words_on p ≤ 24603
-  unfolding words_on
-  plan_words zero p q = words_few (heard l).tag p.members.words (listed (seen n l) (heard l) 0 (omega arith) p q).words
-  plan_words (suc zero) p q = words_few (heard l).tag p.members.words (listed (seen n l) (heard l) 1 (omega arith) p q).words
-  plan_words (suc (suc zero)) p q = words_few (heard l).tag p.members.words (listed (seen n l) (heard l) 2 (omega arith) p q).words
-  plan_words (suc (suc (suc k))) p q =
-      omega (arith, unless_none p.members.words.list p.members.words.value (unlisted (seen n l) (heard l) k p q).words)
+  plan_words : (k : ℕ) (p : Plan) → plan_by k l.tag (seen n l) (heard l) ≡ planned p → words_on p ≤ 24603
+  unfolding words_on words_added
+  plan_words zero p q = words_few l.tag p.members.words (listed (seen n l) (heard l) 0 l.tag (omega arith) p q).words
+  plan_words (suc zero) p q = words_few l.tag p.members.words (listed (seen n l) (heard l) 1 l.tag (omega arith) p q).words
+  plan_words (suc (suc zero)) p q = words_few l.tag p.members.words (listed (seen n l) (heard l) 2 l.tag (omega arith) p q).words
+  plan_words (suc (suc (suc k))) p q = rw (unlisted (seen n l) (heard l) k l.tag p q).words (omega arith)
 
   -- .. and of what the event brings.
   pub brought_small : (p : Plan) → plan_of n l ≡ planned p → Brought (length l.refs) (length (drop (length (table_of n 1)) l.known)) l.charge p

@@ -7,14 +7,33 @@ use native.Mathlib.Omega.{arith}
 use lib.Dec.{eqb}
 use lib.ListN.{get_or}
 use borrow.Author.Tests.{eqb-false}
+use Rattle.std.specs.Prelude.{Option, Some, None, IfSome, ⊤}
+use Rattle.definition.specs.declared.codes.Tag.{Tag}
+use Rattle.definition.specs.declared.codes.Tag.TheVariants as G
+use Rattle.definition.specs.declared.codes.EntryKind.{EntryKind}
+use Rattle.definition.specs.declared.codes.EntryKind.TheVariants as K
+use Rattle.definition.specs.declared.codes.OwnerKind.{OwnerKind}
+use Rattle.definition.specs.declared.codes.OwnerKind.TheVariants as O
+use Rattle.definition.specs.declared.codes.ListKind.{ListKind}
+use Rattle.definition.specs.declared.codes.ListKind.TheVariants as L
 use Rattle.plan.specs.declared.ChartPlan.{ChartPlan}
 use Rattle.plan.specs.declared.Plan.{Plan}
 use Rattle.plan.specs.declared.Seen.{Seen}
 use Rattle.plan.specs.declared.Heard.{Heard}
 use Rattle.plan.specs.declared.Walked.{Walked}
-use Rattle.plan.specs.Plan.{Planned, planned, refused, no_chart, on_chart}
-use Rattle.plan.specs.Plans.{unless_zero_p, unless_initial_p, closing_p, idle_in, begun, ended, fresh_p, passing, plain_p, only_nest_p, rest_p, entry_p, log_p, assign_p, root_script_p, script_p, send_p, block_plan, block_p, both_block_p, end_block_p, walked_p, else_plan, else_p, else_if_plan, else_if_p, region_p, end_listed_p, both_listed_p, end_finalize_p, both_finalize_p, transition_plan, open_transition, whole_transition, transition_by, start_transition_p, both_transition_p, end_transition_p, initial_p, donedata_p, data_p, invoke_p, by_parent_p, of_last_send_p, of_last_invoke_p, of_donedata_p, parameter_p, param_p, send_content_p, content_of_send_p, content_p, declared_row, declared_plan, not_child, state_p, parallel_p, final_p, history_p, scxml_plan, scxml_p, default_to, default_p, end_state_p, end_scxml_p, defaulted, both_declared, both_state_p, both_scxml_p, starts_p, boths_p, ends_p, start_p, both_p, end_p, plan_by}
+use Rattle.plan.specs.declared.Walked.TheVariants as W
+use Rattle.plan.specs.declared.Closing.{Closing}
+use Rattle.plan.specs.declared.Shape.{Shape}
+use Rattle.plan.specs.declared.Shape.TheVariants as H
+use Rattle.plan.specs.Plan.{Planned, planned, refused, on_chart}
+use Rattle.plan.specs.Plans.{unless_zero_p, unless_initial_p, closed_p, closing_p, idle_in, begun, ended, fresh_p, passing, plain_p, only_nest_p, rest_p, entry_p, log_p, assign_p, root_script_p, script_p, send_p, block_plan, block_p, both_block_p, end_block_p, walked_p, else_plan, else_p, else_if_plan, else_if_p, region_p, end_listed_p, both_listed_p, end_finalize_p, both_finalize_p, transition_plan, open_transition, whole_transition, transition_by, start_transition_p, both_transition_p, end_transition_p, initial_p, donedata_p, data_p, invoke_p, by_parent_p, of_last_send_p, of_last_invoke_p, of_donedata_p, parameter_p, param_p, send_content_p, content_of_send_p, content_p, declared_row, declared_plan, not_child, state_p, parallel_p, final_p, history_p, scxml_plan, scxml_p, default_to, default_p, end_state_p, end_scxml_p, defaulted, both_declared, both_state_p, both_scxml_p, starts_p, boths_p, ends_p, start_p, both_p, end_p, plan_by}
 use Rattle.plan.specs.declared.Declared.{Declared}
+
+-- An if that was met is one of e entries.
+unfoldable pub MetIn : Walked → ℕ → Type 0
+MetIn W.NoIf e = ⊤
+MetIn W.Nowhere e = ⊤
+MetIn (W.Met i) e = i ≤ e
 
 -- What is seen and heard names rows in use: so many states (the new names among them), transitions, entries, invokes, data and open regions.
 pub record InUse (v : Seen) (q : Heard) (S T E I D R : ℕ) : Type 0 where
@@ -23,20 +42,19 @@ pub record InUse (v : Seen) (q : Heard) (S T E I D R : ℕ) : Type 0 where
   pub own : q.own.0 ≤ S
   pub place : v.place ≤ T
   pub entry : v.entry ≤ E
-  pub walk : v.walk.at ≤ E
+  pub walk : MetIn v.walk E
   pub invoke : v.invoke ≤ I
   pub found : q.found ≤ suc D
   pub datums : v.datums ≡ D
-  pub kept : v.closed.kept ≤ R
+  pub kept : IfSome v.closed (λ x. x.kept ≤ R)
   pub regions : v.regions ≤ R
 
 pub record Altered (p : Plan) (S T E I D R : ℕ) : Type 0 where
-  pub chart : p.chart.at ≤ 1
-  pub states : p.states.at.0 ≤ S
-  pub transitions : p.transitions.at ≤ T
-  pub entries : p.entries.at ≤ E
-  pub invokes : p.invokes.at ≤ I
-  pub datums : p.datums.at ≤ D
+  pub states : IfSome p.states (λ x. x.at.0 ≤ S)
+  pub transitions : IfSome p.transitions.altered (λ x. x.at ≤ T)
+  pub entries : IfSome p.entries.altered (λ x. x.at ≤ E)
+  pub invokes : IfSome p.invokes.altered (λ x. x.at ≤ I)
+  pub datums : IfSome p.datums.altered (λ x. x.at ≤ D)
   pub kept : p.pending.kept ≤ R
 
 Each : {A : Type 0} → (A → Type 0) → List A → Type 0
@@ -52,9 +70,6 @@ each_at P d (x ∷ xs) a h (suc i) = each_at P d xs a.1 h i
 any : (n : ℕ) → 0 ≤ n
 any n = omega arith
 
-one : 1 ≤ 1
-one = omega arith
-
 below : (x d : ℕ) → x ≤ suc d → (x ≡ suc d → ⊥) → x ≤ d
 below zero d h n = any d
 below (suc zero) zero h n = absurd (n refl)
@@ -66,9 +81,10 @@ module _ (v : Seen) (q : Heard) (S T E I D R : ℕ) (U : InUse v q S T E I D R) 
   On (planned p) = Altered p S T E I D R
   On (refused k) = ◌≡◌ {A = ℕ} 0 0
 
-  on : (p : Plan) → p.chart.at ≤ 1 → p.states.at.0 ≤ S → p.transitions.at ≤ T → p.entries.at ≤ E → p.invokes.at ≤ I → p.datums.at ≤ D → p.pending.kept ≤ R → On (planned p)
+  on : (p : Plan) → IfSome p.states (λ x. x.at.0 ≤ S) → IfSome p.transitions.altered (λ x. x.at ≤ T) → IfSome p.entries.altered (λ x. x.at ≤ E) → IfSome p.invokes.altered (λ x. x.at ≤ I)
+      → IfSome p.datums.altered (λ x. x.at ≤ D) → p.pending.kept ≤ R → On (planned p)
   unfolding On
-  on p a b c d e f g = record { chart = a; states = b; transitions = c; entries = d; invokes = e; datums = f; kept = g }
+  on p b c d e f g = record { states = b; transitions = c; entries = d; invokes = e; datums = f; kept = g }
 
   on_unless : (n : ℕ) (x : Planned) → On x → On (unless_zero_p n x)
   unfolding unless_zero_p On
@@ -83,13 +99,22 @@ module _ (v : Seen) (q : Heard) (S T E I D R : ℕ) (U : InUse v q S T E I D R) 
       go true = h
       go false = refl
 
-  on_walked : (w : Walked) (p : Plan) → On (planned p) → On (walked_p w p)
-  unfolding walked_p On
-  on_walked w p h = go w.met
+  on_walked : (f : ℕ → Plan) → ((e : ℕ) → e ≤ E → On (planned (f e))) → On (walked_p v.walk f)
+  unfolding walked_p MetIn On
+  on_walked f h = go v.walk U.walk
     where
-      go : (m : ℕ) → On (elim m [ zero ↦ refused 14 | suc i ↦ planned p ])
-      go zero = refl
-      go (suc i) = h
+      go : (w : Walked) → MetIn w E → On (walked_p w f)
+      go W.NoIf k = refl
+      go W.Nowhere k = h 0 (any E)
+      go (W.Met e) k = h e k
+
+  on_closed : (f : Closing → Planned) → ((x : Closing) → x.kept ≤ R → On (f x)) → On (closing_p v f)
+  unfolding closed_p On
+  on_closed f h = go v.closed U.kept
+    where
+      go : (c : Option Closing) → IfSome c (λ x. x.kept ≤ R) → On (closed_p c f)
+      go None k = refl
+      go (Some x) k = h x k
 
   either : (b : Bool) (x y : Planned) → On x → On y → On (elim b [ true ↦ x | false ↦ y ])
   either true x y h k = h
@@ -106,67 +131,67 @@ module _ (v : Seen) (q : Heard) (S T E I D R : ℕ) (U : InUse v q S T E I D R) 
 
   only_nest_lem : On (only_nest_p v)
   unfolding only_nest_p begun idle_in
-  only_nest_lem = on _ (any _) (any _) (any _) (any _) (any _) (any _) U.regions
+  only_nest_lem = on _ tt tt tt tt tt U.regions
 
-  entry : (h k : ℕ) → On (entry_p h k v)
+  entry : (h : Shape) (k : EntryKind) → On (entry_p h k v)
   unfolding entry_p begun idle_in
-  entry h k = on_unless v.current.0 _ (on _ (any _) (any _) (any _) (any _) (any _) (any _) U.regions)
+  entry h k = on_unless v.current.0 _ (on _ tt tt tt tt tt U.regions)
 
   log : On (log_p v q)
   unfolding log_p
-  log = either q.expr _ _ (entry 0 3) only_nest_lem
+  log = either q.expr _ _ (entry H.First K.Log) only_nest_lem
 
   assign : On (assign_p v q)
   unfolding assign_p
-  assign = either (eqb q.kind 2) _ _ (entry 1 8) (entry 0 8)
+  assign = either q.whole _ _ (entry H.Second K.Assign) (entry H.First K.Assign)
 
   script : On (script_p v)
   unfolding script_p root_script_p begun idle_in
-  script = either (eqb v.parent 1) _ _ (on _ one (any _) (any _) (any _) (any _) (any _) (any _)) (entry 0 2)
+  script = either (eqb v.parent 1) _ _ (on _ tt tt tt tt tt (any _)) (entry H.First K.Script)
 
   send : On (send_p v q)
   unfolding send_p begun idle_in
-  send = on_unless v.state.0 _ (on_unless v.current.0 _ (on _ (any _) (any _) (any _) (any _) (any _) (any _) U.regions))
+  send = on_unless v.state.0 _ (on_unless v.current.0 _ (on _ tt tt tt tt tt U.regions))
 
-  block : (g k : ℕ) → On (block_p g k v)
+  block : (g : Tag) (k : EntryKind) → On (block_p g k v)
   unfolding block_p block_plan begun idle_in
-  block g k = on_unless v.current.0 _ (on _ (any _) (any _) (any _) (any _) (any _) (any _) U.regions)
+  block g k = on_unless v.current.0 _ (on _ tt tt tt tt tt U.regions)
 
-  both_block : (k : ℕ) → On (both_block_p k v)
+  both_block : (k : EntryKind) → On (both_block_p k v)
   unfolding both_block_p block_plan begun idle_in
-  both_block k = on_unless v.current.0 _ (on _ (any _) (any _) (any _) (any _) (any _) (any _) U.regions)
+  both_block k = on_unless v.current.0 _ (on _ tt tt tt tt tt U.regions)
 
   end_block_lem : On (end_block_p v)
-  unfolding end_block_p closing_p ended idle_in
-  end_block_lem = on_unless v.closed.met _ (on _ (any _) (any _) (any _) (any _) (any _) (any _) U.kept)
+  unfolding end_block_p closed_p ended idle_in
+  end_block_lem = on_closed _ (λ x k. on _ tt tt tt tt tt k)
 
   else' : On (else_p v)
-  unfolding else_p closing_p else_plan begun idle_in
-  else' = on_unless v.closed.met _ (on_walked v.walk _ (on _ (any _) (any _) (any _) U.walk (any _) (any _) U.kept))
+  unfolding else_p closed_p else_plan begun idle_in
+  else' = on_closed _ (λ x k. on_walked _ (λ e w. on _ tt tt w tt tt k))
 
   elseif' : On (else_if_p v)
-  unfolding else_if_p closing_p else_if_plan begun idle_in
-  elseif' = on_unless v.closed.met _ (on_walked v.walk _ (on _ (any _) (any _) (any _) U.walk (any _) (any _) U.kept))
+  unfolding else_if_p closed_p else_if_plan begun idle_in
+  elseif' = on_closed _ (λ x k. on_walked _ (λ e w. on _ tt tt w tt tt k))
 
   region : On (region_p v)
   unfolding region_p begun idle_in fresh_p
-  region = on _ (any _) (any _) (any _) (any _) (any _) (any _) (any _)
+  region = on _ tt tt tt tt tt (any _)
 
-  end_listed_lem : (l : ℕ) → On (end_listed_p l v)
-  unfolding end_listed_p closing_p ended idle_in
-  end_listed_lem l = on_unless v.closed.met _ (on_unless v.state.0 _ (on _ (any _) (any _) (any _) (any _) (any _) (any _) U.kept))
+  end_listed_lem : (l : ListKind) → On (end_listed_p l v)
+  unfolding end_listed_p closed_p ended idle_in
+  end_listed_lem l = on_closed _ (λ x k. on_unless v.state.0 _ (on _ tt tt tt tt tt k))
 
-  both_listed : (l : ℕ) → On (both_listed_p l v)
+  both_listed : (l : ListKind) → On (both_listed_p l v)
   unfolding both_listed_p passing begun idle_in
-  both_listed l = on_unless v.state.0 _ (on _ (any _) (any _) (any _) (any _) (any _) (any _) (any _))
+  both_listed l = on_unless v.state.0 _ (on _ tt tt tt tt tt (any _))
 
   end_finalize_lem : On (end_finalize_p v)
-  unfolding end_finalize_p closing_p ended idle_in
-  end_finalize_lem = on_unless v.closed.met _ (on_unless v.state.0 _ (on_unless v.invoke _ (on _ (any _) (any _) (any _) (any _) U.invoke (any _) U.kept)))
+  unfolding end_finalize_p closed_p ended idle_in
+  end_finalize_lem = on_closed _ (λ x k. on_unless v.state.0 _ (on_unless v.invoke _ (on _ tt tt tt U.invoke tt k)))
 
   both_finalize : On (both_finalize_p v)
   unfolding both_finalize_p passing begun idle_in
-  both_finalize = on_unless v.state.0 _ (on_unless v.invoke _ (on _ (any _) (any _) (any _) (any _) U.invoke (any _) (any _)))
+  both_finalize = on_unless v.state.0 _ (on_unless v.invoke _ (on _ tt tt tt U.invoke tt (any _)))
 
   -- ---- transitions
 
@@ -177,16 +202,16 @@ module _ (v : Seen) (q : Heard) (S T E I D R : ℕ) (U : InUse v q S T E I D R) 
   start_transition_lem : On (start_transition_p v q)
   unfolding start_transition_p open_transition transition_plan idle_in
   start_transition_lem =
-      by_parent_lem (λ b. open_transition b v q) (on _ (any _) U.state (any _) (any _) (any _) (any _) (any _)) (on _ (any _) (any _) (any _) (any _) (any _) (any _) (any _))
+      by_parent_lem (λ b. open_transition b v q) (on _ U.state tt tt tt tt (any _)) (on _ tt tt tt tt tt (any _))
 
   both_transition : On (both_transition_p v q)
   unfolding both_transition_p whole_transition transition_plan idle_in
   both_transition =
-      by_parent_lem (λ b. whole_transition b v q) (on _ (any _) U.state (any _) (any _) (any _) (any _) (any _)) (on _ (any _) (any _) (any _) (any _) (any _) (any _) (any _))
+      by_parent_lem (λ b. whole_transition b v q) (on _ U.state tt tt tt tt (any _)) (on _ tt tt tt tt tt (any _))
 
   end_transition_lem : On (end_transition_p v)
-  unfolding end_transition_p closing_p ended idle_in
-  end_transition_lem = on_unless v.closed.met _ (on_unless v.transition.0 _ (on _ (any _) (any _) U.place (any _) (any _) (any _) U.kept))
+  unfolding end_transition_p closed_p ended idle_in
+  end_transition_lem = on_closed _ (λ x k. on_unless v.transition.0 _ (on _ tt U.place tt tt tt k))
 
   -- ---- initial, donedata, data, invoke, param, content
 
@@ -196,18 +221,18 @@ module _ (v : Seen) (q : Heard) (S T E I D R : ℕ) (U : InUse v q S T E I D R) 
 
   donedata : On (donedata_p v)
   unfolding donedata_p begun idle_in
-  donedata = on_unless v.state.0 _ (on _ (any _) U.state (any _) (any _) (any _) (any _) U.regions)
+  donedata = on_unless v.state.0 _ (on _ U.state tt tt tt tt U.regions)
 
   datum : On (data_p v q)
   unfolding data_p begun idle_in
   datum =
       on_unless v.state.0 _ (
-      either_by (eqb q.found (suc v.datums)) _ _ (λ e. on _ (any _) (any _) (any _) (any _) (any _) (any _) U.regions)
-      (λ e. on _ (any _) (any _) (any _) (any _) (any _) (found_le (eqb-false q.found (suc v.datums) e)) U.regions))
+      either_by (eqb q.found (suc v.datums)) _ _ (λ e. on _ tt tt tt tt tt U.regions)
+      (λ e. on _ tt tt tt tt (found_le (eqb-false q.found (suc v.datums) e)) U.regions))
 
   invoke : On (invoke_p v q)
   unfolding invoke_p begun idle_in
-  invoke = on_unless v.state.0 _ (on _ (any _) (any _) (any _) (any _) (any _) (any _) U.regions)
+  invoke = on_unless v.state.0 _ (on _ tt tt tt tt tt U.regions)
 
   of_parent : (x y z : Planned) → On x → On y → On z → On (by_parent_p v.parent x y z)
   unfolding by_parent_p
@@ -225,54 +250,54 @@ module _ (v : Seen) (q : Heard) (S T E I D R : ℕ) (U : InUse v q S T E I D R) 
   unfolding of_donedata_p
   of_donedata_lem x h = on_unless v.state.0 _ (on_unless v.donedata _ h)
 
-  parameter : (k o : ℕ) → On (parameter_p k o v)
+  parameter : (k : OwnerKind) (o : ℕ) → On (parameter_p k o v)
   unfolding parameter_p begun idle_in
-  parameter k o = on _ (any _) (any _) (any _) (any _) (any _) (any _) U.regions
+  parameter k o = on _ tt tt tt tt tt U.regions
 
   param : On (param_p v)
   unfolding param_p
-  param = of_parent _ _ _ (on_unless v.current.0 _ (of_send_lem _ (parameter 1 v.entry))) (of_invoke_lem _ (parameter 2 v.invoke)) (of_donedata_lem _ (parameter 3 v.state.0))
+  param = of_parent _ _ _ (on_unless v.current.0 _ (of_send_lem _ (parameter O.Send v.entry))) (of_invoke_lem _ (parameter O.Invoke v.invoke)) (of_donedata_lem _ (parameter O.Donedata v.state.0))
 
   send_content_lem : On (send_content_p v q)
   unfolding send_content_p begun idle_in
-  send_content_lem = either (q.expr || eqb q.kind 2) _ _ (on _ (any _) (any _) (any _) U.entry (any _) (any _) U.regions) only_nest_lem
+  send_content_lem = either (q.expr || q.whole) _ _ (on _ tt tt U.entry tt tt U.regions) only_nest_lem
 
   content : On (content_p v q)
   unfolding content_p content_of_send_p begun idle_in
   content =
       of_parent _ _ _ (either (eqb v.current.0 0) _ _ only_nest_lem (of_send_lem _ send_content_lem))
-      (of_invoke_lem _ (on _ (any _) (any _) (any _) (any _) U.invoke (any _) U.regions)) (of_donedata_lem _ (on _ (any _) U.state (any _) (any _) (any _) (any _) U.regions))
+      (of_invoke_lem _ (on _ tt tt tt U.invoke tt U.regions)) (of_donedata_lem _ (on _ U.state tt tt tt tt U.regions))
 
   -- ---- states
 
-  declared : (b : Bool) (x : Declared) (c : ChartPlan) → c.at ≤ 1 → On (planned (on_chart c (declared_plan b x v q)))
+  declared : (b : Bool) (x : Declared) (c : Option ChartPlan) → On (planned (on_chart c (declared_plan b x v q)))
   unfolding declared_plan declared_row idle_in
-  declared true x c h = on _ h U.own (any _) (any _) (any _) (any _) U.regions
-  declared false x c h = on _ h U.own (any _) (any _) (any _) (any _) U.regions
+  declared true x c = on _ U.own tt tt tt tt U.regions
+  declared false x c = on _ U.own tt tt tt tt U.regions
 
   child : (b : Bool) (x : Declared) → On (planned (declared_plan b x v q))
   unfolding declared_plan
-  child b x = declared b x no_chart (any 1)
+  child b x = declared b x None
 
   default : (s z f : ℕ) → s ≤ S → On (default_p s z f v)
   unfolding default_p default_to idle_in
-  default s z f h = on_unless s _ (either (eqb z 0) _ _ (to f) (on _ (any _) (any _) (any _) (any _) (any _) (any _) U.regions))
+  default s z f h = on_unless s _ (either (eqb z 0) _ _ (to f) (on _ tt tt tt tt tt U.regions))
     where
       to : (f : ℕ) → On (planned (default_to s f v))
-      to zero = on _ (any _) (any _) (any _) (any _) (any _) (any _) U.regions
-      to (suc f) = on _ (any _) h (any _) (any _) (any _) (any _) U.regions
+      to zero = on _ tt tt tt tt tt U.regions
+      to (suc f) = on _ h tt tt tt tt U.regions
 
-  both_declared_lem : (c : ChartPlan) (b : Bool) (x : Declared) → c.at ≤ 1 → On (both_declared c b x v q)
+  both_declared_lem : (c : Option ChartPlan) (b : Bool) (x : Declared) → On (both_declared c b x v q)
   unfolding both_declared defaulted declared_plan declared_row idle_in
-  both_declared_lem c b x h = on_unless q.own.0 _ (either b _ _ (declared true x c h) (either (eqb v.own.0 0) _ _ (first v.eldest.0) (declared false x c h)))
+  both_declared_lem c b x = on_unless q.own.0 _ (either b _ _ (declared true x c) (either (eqb v.own.0 0) _ _ (first v.eldest.0) (declared false x c)))
     where
       first : (f : ℕ) → On (planned (on_chart c (defaulted f x v q)))
-      first zero = declared false x c h
-      first (suc f) = on _ h U.own (any _) (any _) (any _) (any _) U.regions
+      first zero = declared false x c
+      first (suc f) = on _ U.own tt tt tt tt U.regions
 
   rest : On (rest_p v)
   unfolding rest_p idle_in
-  rest = on _ (any _) (any _) (any _) (any _) (any _) (any _) U.regions
+  rest = on _ tt tt tt tt tt U.regions
 
   -- ---- by the element's number
 
@@ -284,7 +309,7 @@ module _ (v : Seen) (q : Heard) (S T E I D R : ℕ) (U : InUse v q S T E I D R) 
   starts = (
     only_nest_lem,
     (
-      declared q.initial not_child _ one,
+      declared q.initial not_child _,
       (
         child q.initial _,
         (
@@ -305,7 +330,7 @@ module _ (v : Seen) (q : Heard) (S T E I D R : ℕ) (U : InUse v q S T E I D R) 
                         donedata,
                         (
                           region,
-                          (else', (elseif', (param, (content, (start_transition_lem, (region, (region, (send, (entry 0 6, (entry 0 7, (log, (assign, (block 24 1, (block 25 4, (script, tt))))))))))))))),
+                          (else', (elseif', (param, (content, (start_transition_lem, (region, (region, (send, (entry H.First K.Raise, (entry H.First K.Cancel, (log, (assign, (block G.If K.If, (block G.Foreach K.Foreach, (script, tt))))))))))))))),
                         ),
                       ),
                     ),
@@ -324,9 +349,9 @@ module _ (v : Seen) (q : Heard) (S T E I D R : ℕ) (U : InUse v q S T E I D R) 
   boths = (
     only_nest_lem,
     (
-      both_declared_lem _ q.initial not_child one,
+      both_declared_lem _ q.initial not_child,
       (
-        both_declared_lem no_chart q.initial _ (any 1),
+        both_declared_lem None q.initial _,
         (
           child q.initial _,
           (
@@ -341,7 +366,7 @@ module _ (v : Seen) (q : Heard) (S T E I D R : ℕ) (U : InUse v q S T E I D R) 
                     invoke,
                     (
                       datum,
-                      (donedata, (both_finalize, (else', (elseif', (param, (content, (both_transition, (both_listed 3, (both_listed 4, (send, (entry 0 6, (entry 0 7, (log, (assign, (both_block 1, (both_block 4, (script, tt))))))))))))))))),
+                      (donedata, (both_finalize, (else', (elseif', (param, (content, (both_transition, (both_listed L.Onentry, (both_listed L.Onexit, (send, (entry H.First K.Raise, (entry H.First K.Cancel, (log, (assign, (both_block K.If, (both_block K.Foreach, (script, tt))))))))))))))))),
                     ),
                   ),
                 ),
@@ -385,7 +410,7 @@ module _ (v : Seen) (q : Heard) (S T E I D R : ℕ) (U : InUse v q S T E I D R) 
                               rest,
                               (
                                 rest,
-                                (rest, (end_transition_lem, (end_listed_lem 3, (end_listed_lem 4, (rest, (rest, (rest, (rest, (rest, (end_block_lem, (end_block_lem, tt))))))))))),
+                                (rest, (end_transition_lem, (end_listed_lem L.Onentry, (end_listed_lem L.Onexit, (rest, (rest, (rest, (rest, (rest, (end_block_lem, (end_block_lem, tt))))))))))),
                               ),
                             ),
                           ),
@@ -402,13 +427,13 @@ module _ (v : Seen) (q : Heard) (S T E I D R : ℕ) (U : InUse v q S T E I D R) 
     ),
   )
 
-  by_kind : (k : ℕ) → On (plan_by k v q)
+  by_kind : (k g : ℕ) → On (plan_by k g v q)
   unfolding plan_by start_p both_p end_p plain_p
-  by_kind zero = each_at Onto (plain_p only_nest_p) starts_p starts only_nest_lem q.tag
-  by_kind (suc zero) = each_at Onto (plain_p only_nest_p) boths_p boths only_nest_lem q.tag
-  by_kind (suc (suc zero)) = each_at Onto (plain_p only_nest_p) boths_p boths only_nest_lem q.tag
-  by_kind (suc (suc (suc k))) = each_at (λ (f : Seen → Planned). On (f v)) rest_p ends_p ends rest q.tag
+  by_kind zero g = each_at Onto (plain_p only_nest_p) starts_p starts only_nest_lem g
+  by_kind (suc zero) g = each_at Onto (plain_p only_nest_p) boths_p boths only_nest_lem g
+  by_kind (suc (suc zero)) g = each_at Onto (plain_p only_nest_p) boths_p boths only_nest_lem g
+  by_kind (suc (suc (suc k))) g = each_at (λ (f : Seen → Planned). On (f v)) rest_p ends_p ends rest g
 
   -- A PLAN ALTERS ROWS IN USE.
-  pub altered : (k : ℕ) (p : Plan) → plan_by k v q ≡ planned p → Altered p S T E I D R
-  altered k p e = unfold On in subst On e (by_kind k)
+  pub altered : (k g : ℕ) (p : Plan) → plan_by k g v q ≡ planned p → Altered p S T E I D R
+  altered k g p e = unfold On in subst On e (by_kind k g)

@@ -6,6 +6,7 @@ use mathlib.Core.List.{List, [], ◌∷◌, ◌++◌}
 use native.Mathlib.Omega.{arith}
 use lib.Dec.{eqb}
 use lib.ListN.{length, get_or}
+use Rattle.std.specs.Prelude.{Option, Some, None, IfSome}
 use Rattle.definition.specs.declared.Limits.{Limits}
 use Rattle.definition.specs.Event.{Event}
 use Rattle.definition.specs.Rows.{Row, Table, num, row_of, columns_of, Numbers, table_of, Store, current_state, root}
@@ -27,11 +28,10 @@ use Rattle.kept.proofs.Facts.{rules_from}
 use Rattle.kept.proofs.Resolved.{InRange}
 use Rattle.kept.proofs.LookOk.{look_refs, look_grown}
 use Rattle.plan.specs.declared.Closing.{Closing}
-use Rattle.plan.specs.declared.Walked.{Walked}
 use Rattle.plan.specs.Ids.{region_id}
 use Rattle.plan.specs.Seen.{closed_at, closes, walked_as, walk_in, seen}
 use Rattle.plan.specs.Heard.{heard}
-use Rattle.planfacts.proofs.Places.{InUse}
+use Rattle.planfacts.proofs.Places.{MetIn, InUse}
 
 -- ---- searches end inside their tables
 
@@ -43,48 +43,39 @@ invoke_le : (n : Numbers) (s : ℕ) → last_invoke n s ≤ length (table_of n 5
 unfolding last_invoke
 invoke_le n s = let z : 0 ≤ 0 = omega arith in omega (arith, last_le 0 s 0 0 (table_of n 5) z)
 
-abbrev kept_of : Closing → ℕ
-kept_of x = x.kept
-
-abbrev at_of : Walked → ℕ
-at_of x = x.at
-
-kept_le : (g : ℕ) (rs : Table) (k c : ℕ) → (closed_at g rs k c).kept ≤ k
+kept_le : (g : ℕ) (rs : Table) (k c m : ℕ) → k ≤ m → IfSome (closed_at g rs k c) (λ x. x.kept ≤ m)
 unfolding closed_at
-kept_le g rs zero zero = omega arith
-kept_le g rs zero (suc i) = omega arith
-kept_le g rs (suc k) zero = omega arith
-kept_le g rs (suc k) (suc i) = go (eqb (num (get_or rs k []) 1) g) (kept_le g rs k (num (get_or rs k []) 0))
+kept_le g rs zero zero m h = tt
+kept_le g rs zero (suc i) m h = omega arith
+kept_le g rs (suc k) zero m h = tt
+kept_le g rs (suc k) (suc i) m h = go (eqb (num (get_or rs k []) 1) g) (kept_le g rs k (num (get_or rs k []) 0) m (omega (arith, h)))
   where
-    go : (b : Bool) → (closed_at g rs k (num (get_or rs k []) 0)).kept ≤ k
-        → kept_of (elim b [ true ↦ record { met = 1; current = region_id (num (get_or rs k []) 0); kept = k } | false ↦ closed_at g rs k (num (get_or rs k []) 0) ]) ≤ suc k
-    go true h = omega arith
-    go false h = omega (arith, h)
+    go : (b : Bool) → IfSome (closed_at g rs k (num (get_or rs k []) 0)) (λ x. x.kept ≤ m)
+        → IfSome {T = Closing} (elim b [ true ↦ Some (record { current = region_id (num (get_or rs k []) 0); kept = k }) | false ↦ closed_at g rs k (num (get_or rs k []) 0) ]) (λ x. x.kept ≤ m)
+    go true z = omega (arith, h)
+    go false z = z
 
-walked_le : (n : Numbers) (fuel r : ℕ) → (walked_as (else_walk fuel n r)).at ≤ length (table_of n 4)
-unfolding else_walk walked_as
-walked_le n zero r = omega arith
+walked_le : (n : Numbers) (fuel r : ℕ) → MetIn (walked_as (else_walk fuel n r)) (length (table_of n 4))
+unfolding else_walk walked_as MetIn
+walked_le n zero r = tt
 walked_le n (suc fuel) r =
     let e : Row = row_of (table_of n 4) (last_entry n r) in
     go (eqb (num e 1) 1) (eqb (num e 4) 0) (entry_le n r) (walked_le n fuel (num e 4))
   where
-    go : (b z : Bool) → last_entry n r ≤ length (table_of n 4) → (walked_as (else_walk fuel n (num (row_of (table_of n 4) (last_entry n r)) 4))).at ≤ length (table_of n 4)
-        → (walked_as (elim b [ false ↦ no_if | true ↦ elim z [ true ↦ meets (last_entry n r) | false ↦ else_walk fuel n (num (row_of (table_of n 4) (last_entry n r)) 4) ] ])).at ≤ length (table_of n 4)
-    go false z h k = omega arith
+    go : (b z : Bool) → last_entry n r ≤ length (table_of n 4) → MetIn (walked_as (else_walk fuel n (num (row_of (table_of n 4) (last_entry n r)) 4))) (length (table_of n 4))
+        → MetIn (walked_as (elim b [ false ↦ no_if | true ↦ elim z [ true ↦ meets (last_entry n r) | false ↦ else_walk fuel n (num (row_of (table_of n 4) (last_entry n r)) 4) ] ])) (length (table_of n 4))
+    go false z h k = tt
     go true true h k = h
     go true false h k = k
 
-walk_le : (n : Numbers) (x : Closing) → (walk_in n x).at ≤ length (table_of n 4)
-unfolding walk_in
-walk_le n x = go x.met (from x.current.0)
+walk_le : (n : Numbers) (x : Option Closing) → MetIn (walk_in n x) (length (table_of n 4))
+unfolding walk_in MetIn
+walk_le n None = tt
+walk_le n (Some x) = from x.current.0
   where
-    from : (c : ℕ) → (walked_as (walk_from n c)).at ≤ length (table_of n 4)
-    from zero = unfold walk_from walked_as in omega arith
+    from : (c : ℕ) → MetIn (walked_as (walk_from n c)) (length (table_of n 4))
+    from zero = unfold walk_from walked_as in tt
     from (suc c) = unfold walk_from in walked_le n (length (table_of n 3)) (suc c)
-
-    go : (m : ℕ) → (walked_as (walk_from n x.current.0)).at ≤ length (table_of n 4) → at_of (elim m [ zero ↦ record { met = 0; at = 0 } | suc i ↦ walked_as (walk_from n x.current.0) ]) ≤ length (table_of n 4)
-    go zero h = omega arith
-    go (suc m) h = h
 
 -- ---- numbers that the rules speak of
 
@@ -141,6 +132,6 @@ module _ (L : Limits) (s : Store) (e : Event) (rules : keeps_rules L s ≡ true)
         invoke = invoke_le n _;
         found = looked_le;
         datums = refl;
-        kept = kept_le _ (table_of n 11) _ _;
+        kept = kept_le _ (table_of n 11) _ _ _ (omega arith);
         regions = omega arith;
       }

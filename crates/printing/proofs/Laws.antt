@@ -1,20 +1,21 @@
--- A buffer filled from the front; digits, escapes and lists piece by piece.
+-- A buffer filled from the front; escapes and lists piece by piece.
 use mathlib.Core.Path.{◌≡◌, refl, ap, ap₂, sym, ◌∙◌}
 use mathlib.Core.List.{List, [], ◌∷◌, ◌++◌, append_assoc, append-nil}
 use mathlib.Core.Bool.{Bool, true, false}
-use Prim.Native.Nat.{ℕ, zero, suc, ◌+◌, ◌*◌, ◌/◌, ◌%◌, ◌≤◌, ◌<◌}
+use Prim.Native.Nat.{ℕ, zero, suc, ◌+◌, ◌≤◌, ◌<◌}
 use native.Mathlib.Numerals.{add-one}
 use native.Mathlib.Omega.{arith}
-use lib.Dec.{ltb}
-use lib.ListN.{length, get_or, take, drop, set, length-set, length-append, drop_of_length-le}
-use lib.Seq.{take_all, take_at, take-suc-set, drop-cons, length-take-le}
-use borrow.Author.Tests.{eq-eqb, ne_eqb, ltb-true, ltb-false}
+use lib.ListN.{length, get_or, take, drop, length-append, drop_of_length-le}
+use lib.Seq.{take_all, drop-cons, length-take-le}
+use borrow.Author.Tests.{eq-eqb, ne_eqb}
 use Rattle.words.proofs.Laws.{by}
-use Rattle.written.proofs.Decimal.{digits_one, digits_more}
-use Rattle.definition.specs.Text.{digits, decimal}
-use Rattle.definition.specs.Rows.{Table, num, listed, same_list, values_of}
-use Rattle.printing.specs.Added.{Added, Begun}
-use Rattle.printing.specs.Lines.{escape, escaped, gap, spaced_from, line, numbers_of}
+use Rattle.definition.specs.Text.{decimal}
+use Rattle.std.proofs.Common.{Bor, map, filter}
+use Rattle.definition.specs.Rows.{Row, Table, num, listed, same_list, values_of}
+use Rattle.printing.specs.Added.{Added}
+use Rattle.printing.specs.Put.{Put, Begun}
+use Rattle.printing.specs.declared.page.Page.{Page}
+use Rattle.printing.specs.Lines.{escape, escaped, gap, spaced_from, line}
 
 -- ---- a buffer filled from the front
 
@@ -42,66 +43,30 @@ added_then {a} {b} {c} {w} {v} {i} {j} {k} x y =
 pub added_is : {a b w v : List ℕ} {i j : ℕ} → w ≡ v → Added a i b j w → Added a i b j v
 added_is {a} {b} {w} {v} {i} {j} e x = record { long = x.long; within = x.within; told = x.told ∙ ap (λ (l : List ℕ). take (length b) (take i a ++ l)) e }
 
--- a full buffer, and one with room
-pub byte_left : (a : List ℕ) (i x : ℕ) → i ≤ length a → length a ≤ i → Added a i a i (x ∷ [])
-byte_left a i x h k =
-    record { long = refl; within = h; told = sym (take_at (take i a) (x ∷ []) (length a) (omega (arith, length-take-le i a h))) }
+-- ---- what is filled, piece by piece
 
-pub byte_put : (a : List ℕ) (i x : ℕ) → i < length a → Added a i (set a i x) (i + 1) (x ∷ [])
-byte_put a i x h =
+pub put_none : (x : Page) → x.at ≤ length x.buffer.now → Put x x []
+put_none x h = record { added = added_none x.buffer.now x.at h; loan = refl }
+
+pub put_then : {x y z : Page} {w v : List ℕ} → Put x y w → Put y z v → Put x z (w ++ v)
+put_then p q = record { added = added_then p.added q.added; loan = q.loan ∙ p.loan }
+
+pub put_is : {x y : Page} {w v : List ℕ} → w ≡ v → Put x y w → Put x y v
+put_is e p = record { added = added_is e p.added; loan = p.loan }
+
+pub begun : (x : Page) (whole : List ℕ) → x.at ≤ length x.buffer.now → Begun x x whole whole
+begun x whole h = record { part = []; put = put_none x h; joined = refl }
+
+pub goes_on : {x y z : Page} {v rest₀ rest whole : List ℕ} → Begun x y rest₀ whole → rest₀ ≡ v ++ rest → Put y z v → Begun x z rest whole
+goes_on {v = v} {rest = rest} g e q =
     record {
-      long = length-set a i x;
-      within = omega (arith, length-set a i x);
-      told =
-          rw add-one (take-suc-set a i x h)
-          ∙ sym (take_all (length (set a i x)) (take i a ++ x ∷ []) (omega (arith, length-set a i x, length-append (take i a) (x ∷ []), length-take-le i a (omega arith))));
+      part = g.part ++ v;
+      put = put_then g.put q;
+      joined = append_assoc g.part v rest ∙ ap (λ (l : List ℕ). g.part ++ l) (sym e) ∙ g.joined;
     }
 
--- ---- loops
-
-pub begun : (a : List ℕ) (i : ℕ) (whole : List ℕ) → i ≤ length a → Begun a i a i whole whole
-begun a i whole h = record { part = []; added = added_none a i h; joined = refl }
-
-pub begun_at : {a rest whole : List ℕ} {i : ℕ} → whole ≡ rest → i ≤ length a → Begun a i a i rest whole
-begun_at {a} {i = i} e h = record { part = []; added = added_none a i h; joined = sym e }
-
-pub goes_on : {a b c x rest rest₀ whole : List ℕ} {i j k : ℕ} → Begun a i b j rest₀ whole → rest₀ ≡ x ++ rest → Added b j c k x → Begun a i c k rest whole
-goes_on {x = x} {rest = rest} g e y =
-    record {
-      part = g.part ++ x;
-      added = added_then g.added y;
-      joined = append_assoc g.part x rest ∙ ap (λ (l : List ℕ). g.part ++ l) (sym e) ∙ g.joined;
-    }
-
-pub ended : {a b rest whole : List ℕ} {i j : ℕ} → Begun a i b j rest whole → rest ≡ [] → Added a i b j whole
-ended g e = added_is (sym (append-nil g.part) ∙ ap (λ (l : List ℕ). g.part ++ l) (sym e) ∙ g.joined) g.added
-
-pub drop_first : (w : List ℕ) (i : ℕ) → i < length w → drop i w ≡ (get_or w i 0 ∷ []) ++ drop (i + 1) w
-drop_first w i h = rw add-one (drop-cons w i 0 h)
-
--- ---- digits
-
-most : ℕ → ℕ
-most zero = 1
-most (suc f) = most f * 10
-
--- more fuel gives the same digits
-fuel : (f n : ℕ) → n < most (suc f) → digits (suc f) n ≡ digits (suc (suc f)) n
-unfolding most
-fuel zero n h = let k : n < 10 = omega arith in digits_one 0 n k ∙ sym (digits_one 1 n k)
-fuel (suc f) n h =
-    by (ltb n 10) (λ e. let k : n < 10 = ltb-true _ _ e in digits_one (suc f) n k ∙ sym (digits_one (suc (suc f)) n k))
-    (λ e.
-    let k : 10 ≤ n = ltb-false _ _ e in
-    digits_more (suc f) n k ∙ ap (λ (l : List ℕ). l ++ (48 + n % 10) ∷ []) (fuel f (n / 10) (omega arith)) ∙ sym (digits_more (suc (suc f)) n k))
-
-pub decimal_one : (n : ℕ) → n < 10 → decimal n ≡ (48 + n % 10) ∷ []
-unfolding decimal
-decimal_one n h = digits_one 19 n h
-
-pub decimal_more : (n : ℕ) → 10 ≤ n → n < 18446744073709551616 → decimal n ≡ decimal (n / 10) ++ (48 + n % 10) ∷ []
-unfolding decimal most
-decimal_more n h k = digits_more 19 n h ∙ ap (λ (l : List ℕ). l ++ (48 + n % 10) ∷ []) (fuel 18 (n / 10) (omega arith))
+pub ended : {x y : Page} {rest whole : List ℕ} → Begun x y rest whole → rest ≡ [] → Put x y whole
+ended g e = put_is (sym (append-nil g.part) ∙ ap (λ (l : List ℕ). g.part ++ l) (sym e) ∙ g.joined) g.put
 
 -- ---- escapes
 
@@ -129,45 +94,50 @@ module _ (w : List ℕ) (i : ℕ) where
 
 -- ---- lists
 
-module _ (l o : ℕ) (ms : Table) (i : ℕ) where
-  pub member_more : i < length ms → same_list l o (get_or ms i []) ≡ false → listed l o (drop i ms) ≡ listed l o (drop (i + 1) ms)
-  unfolding listed
-  member_more h e = rw (drop-cons ms i [] h, e, listed, add-one)
+pub listed_filter : (l o : ℕ) (ms : Table) → filter (same_list l o) ms ≡ listed l o ms
+unfolding listed
+listed_filter l o [] = refl
+listed_filter l o (m ∷ ms) =
+    by (same_list l o m) (λ e. rw (e, listed) (ap (λ (x : Table). m ∷ x) (listed_filter l o ms)))
+    (λ e. rw (e, listed) (listed_filter l o ms))
 
-  pub member_here : i < length ms → same_list l o (get_or ms i []) ≡ true → listed l o (drop i ms) ≡ get_or ms i [] ∷ listed l o (drop (i + 1) ms)
-  unfolding listed
-  member_here h e = rw (drop-cons ms i [] h, e, listed, add-one)
+-- what stands before the next number of a list
+pub gap_after : Bool → List ℕ → List ℕ
+gap_after first [] = gap first
+gap_after first (n ∷ ns) = gap false
 
-  pub member_end : length ms ≤ i → listed l o (drop i ms) ≡ []
-  unfolding listed
-  member_end h = rw (drop_of_length-le ms h)
+pub gap_first : gap_after true [] ≡ []
+unfolding gap_after gap
+gap_first = refl
 
-  -- one item of a list, and what is left of it
-  pub item : (first : Bool) (n : ℕ) → i < length ms → same_list l o (get_or ms i []) ≡ true → n ≡ num (get_or ms i []) 2
-      → spaced_from first (numbers_of l o (drop i ms)) ≡ (gap first ++ decimal n) ++ spaced_from false (numbers_of l o (drop (i + 1) ms))
-  unfolding numbers_of spaced_from values_of
-  item first n h e f = rw (member_here h e, f)
+pub gap_next : (first : Bool) (ns : List ℕ) (n : ℕ) → gap_after first (ns ++ n ∷ []) ≡ 32 ∷ []
+unfolding gap_after gap
+gap_next first [] n = refl
+gap_next first (m ∷ ns) n = refl
 
-  -- a row of another list
-  pub no_item : (first : Bool) → i < length ms → same_list l o (get_or ms i []) ≡ false → spaced_from first (numbers_of l o (drop i ms)) ≡ spaced_from first (numbers_of l o (drop (i + 1) ms))
-  unfolding numbers_of
-  no_item first h e = rw (member_more h e)
+gap_false : (ns : List ℕ) → gap_after false ns ≡ gap false
+unfolding gap_after
+gap_false [] = refl
+gap_false (n ∷ ns) = refl
 
-  pub items_end : (first : Bool) → length ms ≤ i → spaced_from first (numbers_of l o (drop i ms)) ≡ []
-  unfolding numbers_of spaced_from values_of
-  items_end first h = rw (member_end h)
+pub spaced_more : (first : Bool) (ns : List ℕ) (n : ℕ) → spaced_from first (ns ++ n ∷ []) ≡ spaced_from first ns ++ (gap_after first ns ++ decimal n)
+unfolding spaced_from gap_after
+spaced_more first [] n = append-nil (gap first ++ decimal n)
+spaced_more first (m ∷ ns) n =
+    ap (λ (x : List ℕ). (gap first ++ decimal m) ++ x) (spaced_more false ns n ∙ ap (λ (x : List ℕ). spaced_from false ns ++ (x ++ decimal n)) (gap_false ns))
+    ∙ sym (append_assoc (gap first ++ decimal m) (spaced_from false ns) (gap false ++ decimal n))
 
-module _ (first : Bool) (n : ℕ) where
-  pub gap_none : first ≡ true → decimal n ≡ gap first ++ decimal n
-  unfolding gap
-  gap_none e = rw e
+-- the numbers of the members that came
+abbrev pub numbers_in : List (Bor Row) → List ℕ
+numbers_in rows = values_of (map (λ (r : Bor Row). r.now) rows)
 
-  pub gap_one : first ≡ false → 32 ∷ decimal n ≡ gap first ++ decimal n
-  unfolding gap
-  gap_one e = rw e
+pub numbers_more : (rows : List (Bor Row)) (r : Bor Row) → numbers_in (rows ++ r ∷ []) ≡ numbers_in rows ++ num r.now 2 ∷ []
+unfolding values_of
+numbers_more [] r = refl
+numbers_more (q ∷ rows) r = ap (λ (x : List ℕ). num q.now 2 ∷ x) (numbers_more rows r)
 
 -- ---- lines
 
-pub added_line : {a b c d h v : List ℕ} {i j k l : ℕ} → Added a i b j h → Added b j c k v → Added c k d l (10 ∷ []) → Added a i d l (line h v)
+pub line_put : {x y z u : Page} {h v : List ℕ} → Put x y h → Put y z v → Put z u (10 ∷ []) → Put x u (line h v)
 unfolding line
-added_line x y z = added_then (added_then x y) z
+line_put p q r = put_then (put_then p q) r

@@ -6,9 +6,3 @@ pub record Added (a : List ℕ) (i : ℕ) (b : List ℕ) (j : ℕ) (w : List ℕ
   pub long : length b ≡ length a
   pub within : j ≤ length b
   pub told : take j b ≡ take (length b) (take i a ++ w)
-
--- Of `whole`, something was put behind the first i bytes of a, and `rest` is left to put.
-pub record Begun (a : List ℕ) (i : ℕ) (b : List ℕ) (j : ℕ) (rest whole : List ℕ) : Type 0 where
-  pub part : List ℕ
-  pub added : Added a i b j part
-  pub joined : part ++ rest ≡ whole

@@ -2,117 +2,99 @@
 
 #![tactic(auto)]
 
-ghost use Rattle.std.specs.Prelude.{◌≡◌, true, [], ◌∷◌, ◌++◌, ◌+◌, ◌%◌, ◌≤◌, ◌<◌, length, get_or, drop};
+ghost use Rattle.std.specs.Prelude.{◌≡◌};
 ghost use Rattle.definition.specs.Text.{decimal};
-ghost use Rattle.definition.specs.Rows.{listed, same_list};
-ghost use Rattle.printing.specs.Added.{Added};
-ghost use Rattle.printing.specs.Lines.{escape, escaped, gap, spaced, line, numbers_of};
+ghost use Rattle.printing.specs.Lines.{escape, escaped, spaced, line, numbers_of};
+ghost use Rattle.printing.specs.Put.{Put};
+
+pub mod page;
 
 use definition::cells::MemberColumn;
 use itoa::Buffer;
+use page::Page;
 
-// ---- bytes, numbers, names
-
-pub fn put_bytes(out: &mut [u8], at: usize, w: &[u8]) -> usize
-    requires { at ≤ length out.old }
-    ensures { Added out.old at out.new result w.now }
-{
-    let n = w.len().min(out.len() - at);
-    out[at..at + n].copy_from_slice(&w[..n]);
-    at + n
-}
-
-fn put_number(out: &mut [u8], at: usize, n: u64) -> usize
-    requires { at ≤ length out.old }
-    ensures { Added out.old at out.new result (decimal n) }
-{
-    put_bytes(out, at, Buffer::new().format(n).as_bytes())
-}
-
-fn put_escape(out: &mut [u8], at: usize, b: u8) -> usize
-    requires { at ≤ length out.old }
-    ensures { Added out.old at out.new result (escape b) }
-{
-    if b == b'\n' {
-        return put_bytes(out, at, b"\\n");
+impl<'a> Page<'a> {
+    pub fn new(buffer: &'a mut [u8]) -> Page<'a>
+        ensures same_loan { result.buffer.ghost_name ≡ buffer.entry.ghost_name }
+        ensures same_bytes { result.buffer.now ≡ buffer.old }
+        ensures empty { result.at ≡ 0 }
+    {
+        Page { buffer, at: 0 }
     }
-    if b == b'\\' {
-        return put_bytes(out, at, b"\\\\");
+}
+
+impl Page<'_> {
+    pub fn put_bytes(&mut self, w: &[u8])
+        ensures { Put self.old self.new w.now }
+    {
+        let n = w.len().min(self.buffer.len() - self.at);
+        self.buffer[self.at..self.at + n].copy_from_slice(&w[..n]);
+        self.at += n;
     }
-    put_bytes(out, at, &[b])
-}
 
-fn put_escaped(out: &mut [u8], at: usize, w: &[u8]) -> usize
-    requires { at ≤ length out.old }
-    ensures { Added out.old at out.new result (escaped w.now) }
-{
-    let mut p = at;
-    for b in w {
-        p = put_escape(out, p, *b);
+    fn put_number(&mut self, n: u64)
+        ensures { Put self.old self.new (decimal n) }
+    {
+        self.put_bytes(Buffer::new().format(n).as_bytes());
     }
-    p
-}
 
-// ---- lines
-
-pub fn put_number_line(out: &mut [u8], at: usize, head: &[u8], n: u64) -> usize
-    requires { at ≤ length out.old }
-    ensures { Added out.old at out.new result (line head.now (decimal n)) }
-{
-    let p = put_bytes(out, at, head);
-    let q = put_number(out, p, n);
-    put_bytes(out, q, b"\n")
-}
-
-pub fn put_name_line(out: &mut [u8], at: usize, head: &[u8], name: &[u8]) -> usize
-    requires { at ≤ length out.old }
-    ensures { Added out.old at out.new result (line head.now (escaped name.now)) }
-{
-    let p = put_bytes(out, at, head);
-    let q = put_escaped(out, p, name);
-    put_bytes(out, q, b"\n")
-}
-
-// ---- lists
-
-fn put_item(out: &mut [u8], at: usize, first: bool, n: u64) -> usize
-    requires { at ≤ length out.old }
-    ensures { Added out.old at out.new result (gap first ++ decimal n) }
-{
-    if first {
-        return put_number(out, at, n);
+    // By `if`, since the last arm of a `match` on a byte does not say which bytes it is not.
+    fn put_escape(&mut self, b: u8)
+        ensures { Put self.old self.new (escape b) }
+    {
+        if b == b'\n' {
+            return self.put_bytes(b"\\n");
+        }
+        if b == b'\\' {
+            return self.put_bytes(b"\\\\");
+        }
+        self.put_bytes(&[b]);
     }
-    let p = put_bytes(out, at, b" ");
-    put_number(out, p, n)
-}
 
-fn put_list(out: &mut [u8], at: usize, members: &[[u32; 8]], list: u32, owner: u32) -> usize
-    requires { at ≤ length out.old }
-    ensures { Added out.old at out.new result (spaced (numbers_of list owner members.now)) }
-{
-    let mut p = at;
-    let mut first = true;
-    for row in members {
-        if (row[MemberColumn::LIST] == list) & (row[MemberColumn::OWNER] == owner) {
-            p = put_item(out, p, first, u64::from(row[MemberColumn::VALUE]));
-            first = false;
+    fn put_escaped(&mut self, w: &[u8])
+        ensures { Put self.old self.new (escaped w.now) }
+    {
+        for b in w {
+            self.put_escape(*b);
         }
     }
-    p
-}
 
-pub fn put_list_line(
-    out: &mut [u8],
-    at: usize,
-    head: &[u8],
-    members: &[[u32; 8]],
-    list: u32,
-    owner: u32,
-) -> usize
-    requires { at ≤ length out.old }
-    ensures { Added out.old at out.new result (line head.now (spaced (numbers_of list owner members.now))) }
-{
-    let p = put_bytes(out, at, head);
-    let q = put_list(out, p, members, list, owner);
-    put_bytes(out, q, b"\n")
+    pub fn put_number_line(&mut self, head: &[u8], n: u64)
+        ensures { Put self.old self.new (line head.now (decimal n)) }
+    {
+        self.put_bytes(head);
+        self.put_number(n);
+        self.put_bytes(b"\n");
+    }
+
+    pub fn put_name_line(&mut self, head: &[u8], name: &[u8])
+        ensures { Put self.old self.new (line head.now (escaped name.now)) }
+    {
+        self.put_bytes(head);
+        self.put_escaped(name);
+        self.put_bytes(b"\n");
+    }
+
+    // The list is a number, as the rows have it: C lends rows of numbers.
+    fn put_list(&mut self, members: &[[u32; 8]], list: u32, owner: u32)
+        ensures { Put self.old self.new (spaced (numbers_of list owner members.now)) }
+    {
+        let mut gap: &[u8] = b"";
+        for row in members.iter().filter(|row| row[MemberColumn::LIST] == list
+            && row[MemberColumn::OWNER] == owner)
+        {
+            self.put_bytes(gap);
+            self.put_number(u64::from(row[MemberColumn::VALUE]));
+            gap = b" ";
+        }
+    }
+
+    // The list as above.
+    pub fn put_list_line(&mut self, head: &[u8], members: &[[u32; 8]], list: u32, owner: u32)
+        ensures { Put self.old self.new (line head.now (spaced (numbers_of list owner members.now))) }
+    {
+        self.put_bytes(head);
+        self.put_list(members, list, owner);
+        self.put_bytes(b"\n");
+    }
 }

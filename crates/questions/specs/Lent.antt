@@ -1,13 +1,11 @@
 -- What questions 1 and 2 ask of what is lent, in the order in which the code asks.
-use Rattle.std.specs.Prelude.{ℕ, ◌≤◌, ◌≡◌, Bool, true, false, ◌&&◌, List, length, leb, Result, Ok, Err}
+use Rattle.std.specs.Prelude.{ℕ, ◌≤◌, ◌≡◌, Bool, true, false, ◌&&◌, List, length, leb}
 use Rattle.definition.specs.Limits.{limits01}
 use Rattle.definition.specs.declared.Limits.{Limits}
 use Rattle.definition.specs.declared.Position.{Position}
 use Rattle.definition.specs.Rows.{Table, table, schema, table_of, Store}
 use Rattle.definition.specs.Rules.{tables_keep, names_distinct, numbers_fit, open_names_fit, open_regions_fit, is_row_or_zero, table_limits}
 use Rattle.definition.specs.Reader as R
-use Rattle.definition.specs.declared.codes.Refusal.{Refusal}
-use Rattle.definition.specs.Codes.{refusal_number}
 use Rattle.columns.specs.declared.numbered.Known.{Known}
 use Rattle.columns.specs.Sees.{Sees}
 use Rattle.rows.specs.declared.lent.Tables.{Tables}
@@ -60,8 +58,3 @@ counters_fit p stored =
 -- The first no of questions 1 and 2; 0: both yes.
 unfoldable pub first_two : R.Lent → Position → ℕ
 first_two x p = elim (R.long_enough limits01 x) [ false ↦ 1 | true ↦ elim (R.in_order limits01 x p) [ false ↦ 2 | true ↦ 0 ] ]
-
--- The number of a no; 0: yes.
-abbrev pub number_of : {T : Type 0} → Result T Refusal → ℕ
-number_of (Ok x) = 0
-number_of (Err e) = refusal_number e

@@ -3,11 +3,12 @@
 #![tactic(auto)]
 
 ghost use Rattle.std.specs.Prelude.{◌≡◌, ◌<◌, ◌^◌};
+ghost use Rattle.definition.specs.Codes.{outcome};
 ghost use Rattle.definition.specs.Limits.{limits01};
 ghost use Rattle.definition.specs.Reader.{long_enough, in_order};
 ghost use Rattle.columns.specs.Rising.{Rising};
 ghost use Rattle.rows.specs.Lent.{seen_of};
-ghost use Rattle.questions.specs.Lent.{TablesTest, store, rules_kept, Few, KnownOf, counts_fit, counters_fit, first_two, number_of};
+ghost use Rattle.questions.specs.Lent.{TablesTest, store, rules_kept, Few, KnownOf, counts_fit, counters_fit, first_two};
 
 use columns::numbered::Known;
 use definition::codes::Refusal;
@@ -155,7 +156,7 @@ pub fn long_enough(tables: Tables<'_>) -> bool
 /// Questions 1 and 2, or the first no.
 #[tactic(auto, unfolding(crate::specs::Lent::first_two))]
 pub fn asked(tables: Tables<'_>, p: Position) -> Result<(), Refusal>
-    ensures { number_of result ≡ first_two (seen_of tables.entry) p }
+    ensures { outcome result ≡ first_two (seen_of tables.entry) p }
 {
     if !long_enough(tables) {
         return Err(Refusal::TooShort);

@@ -64,7 +64,7 @@ pub fn chart_stream(lent: &mut Lent<'_>, p: Position, bytes: &[u8]) -> Streamed
     feed_all(lent, p, bytes)
 }
 
-/// A row by kind and number, as bytes.
+/// A row by kind and number, as bytes. The kind is a number, as C gives it.
 pub fn chart_read_row(
     tables: Tables<'_>,
     p: Position,

@@ -1,11 +1,14 @@
 -- A row written as bytes, number by number.
-use mathlib.Core.Path.{◌≡◌, refl, sym, ap, ◌∙◌}
+use mathlib.Core.Path.{◌≡◌, refl, ap, ◌∙◌}
 use mathlib.Core.List.{List, [], ◌∷◌, ◌++◌, append_assoc}
-use Prim.Native.Nat.{ℕ, suc, ◌+◌, ◌*◌, ◌/◌, ◌%◌, ◌≤◌, ◌<◌}
+use Prim.Native.Nat.{ℕ, ◌+◌, ◌*◌, ◌≤◌, ◌<◌}
 use native.Mathlib.Numerals.{add-one}
 use native.Mathlib.Omega.{arith}
-use lib.ListN.{length, take, drop, get_or, set, length-append, length-drop, length-set}
-use lib.Seq.{sets, sets-eq, take_at, drop-append-add, drop-drop, take-suc, length-take-le, take_all}
+use lib.ListN.{length, take, drop, get_or, length-append, length-drop}
+use lib.Seq.{take_at, drop_at, drop-drop, take-suc, length-take-le, take_all}
+use borrow.Rule.Slice.PartMut.{put_mid}
+use Rattle.std.specs.Int.{to_le_bytes}
+use mir.Syntax.{w32}
 use Rattle.reading.specs.Bytes.{number_bytes, row_bytes}
 
 bytes_length : (r : List ℕ) → length (row_bytes r) ≡ length r * 4
@@ -17,6 +20,10 @@ bytes_snoc : (r : List ℕ) (v : ℕ) → row_bytes (r ++ (v ∷ [])) ≡ row_by
 unfolding row_bytes number_bytes
 bytes_snoc [] v = refl
 bytes_snoc (x ∷ r) v = ap (λ (l : List ℕ). number_bytes x ++ l) (bytes_snoc r v)
+
+pub le_bytes : (v : ℕ) → to_le_bytes w32 v ≡ number_bytes v
+unfolding number_bytes
+le_bytes v = refl
 
 -- c numbers are written; what lies beyond is as it was.
 pub record Written (old row : List ℕ) (c : ℕ) (new : List ℕ) : Type 0 where
@@ -42,25 +49,18 @@ module _ (old row : List ℕ) (enough : 200 ≤ length old) (wide : length row �
     done_length : length done ≡ c * 4
     done_length = bytes_length (take c row) ∙ ap (λ (n : ℕ). n * 4) (length-take-le c row (omega arith))
 
-    spread : sets (done ++ drop (c * 4) old) (c * 4) (number_bytes (get_or row c 0)) ≡ row_bytes (take (suc c) row) ++ drop (suc c * 4) old
+    pub written_more : {bytes : List ℕ} → bytes ≡ number_bytes (get_or row c 0) → Written old row (c + 1) (put_mid (c * 4) 4 new bytes)
     unfolding number_bytes
-    spread =
-        let l : length (done ++ drop (c * 4) old) ≡ length old = omega (arith, length-append done (drop (c * 4) old), done_length, length-drop (c * 4) old) in
-        let k : c * 4 + length (number_bytes (get_or row c 0)) ≤ length (done ++ drop (c * 4) old) = omega arith in
-        let t : take (c * 4) (done ++ drop (c * 4) old) ≡ done = take_at done (drop (c * 4) old) (c * 4) done_length in
-        let m : c * 4 + 4 ≡ suc c * 4 = omega arith in
-        let d : drop (c * 4 + 4) (done ++ drop (c * 4) old) ≡ drop (suc c * 4) old = ap (λ (n : ℕ). drop (n + 4) (done ++ drop (c * 4) old)) (sym done_length) ∙ drop-append-add done (drop (c * 4) old) 4 ∙ drop-drop 4 (c * 4) old ∙ ap (λ (n : ℕ). drop n old) m in
-        let r : row_bytes (take (suc c) row) ≡ done ++ number_bytes (get_or row c 0) = ap row_bytes (take-suc row c 0 (omega arith)) ∙ bytes_snoc (take c row) (get_or row c 0) in
-        sets-eq (number_bytes (get_or row c 0)) (done ++ drop (c * 4) old) (c * 4) k ∙ rw (t, d, r, append_assoc)
-
-    pub written_more : {a b d e : ℕ} → a ≡ get_or row c 0 % 256 → b ≡ get_or row c 0 / 256 % 256 → d ≡ get_or row c 0 / 65536 % 256 → e ≡ get_or row c 0 / 16777216 % 256 → Written old row (c + 1) (set (set (set (set new (c * 4) a) (c * 4 + 1) b) (c * 4 + 2) d) (c * 4 + 3) e)
-    unfolding number_bytes
-    written_more {a} {b} {d} {e} ea eb ed ee =
-        let n1 : c * 4 + 1 ≡ suc (c * 4) = omega arith in
-        let n2 : c * 4 + 2 ≡ suc (suc (c * 4)) = omega arith in
-        let n3 : c * 4 + 3 ≡ suc (suc (suc (c * 4))) = omega arith in
+    written_more {bytes} e =
+        let t : take (c * 4) new ≡ done = ap (take (c * 4)) w.is ∙ take_at done (drop (c * 4) old) (c * 4) done_length in
+        let d : drop 4 (drop (c * 4) new) ≡ drop ((c + 1) * 4) old =
+        ap (λ (l : List ℕ). drop 4 (drop (c * 4) l)) w.is ∙ ap (drop 4) (drop_at done (drop (c * 4) old) (c * 4) done_length) ∙ drop-drop 4 (c * 4) old ∙ ap (λ (n : ℕ). drop n old) (omega arith) in
+        let r : row_bytes (take (c + 1) row) ≡ done ++ number_bytes (get_or row c 0) = rw add-one (ap row_bytes (take-suc row c 0 (omega arith)) ∙ bytes_snoc (take c row) (get_or row c 0)) in
+        let is : put_mid (c * 4) 4 new bytes ≡ row_bytes (take (c + 1) row) ++ drop ((c + 1) * 4) old = rw (t, d, r, e, append_assoc) refl in
         record {
           most = omega arith;
-          length_kept = simp length-set w.length_kept;
-          is = rw (ea, eb, ed, ee, n1, n2, n3, w.is, add-one c) spread;
+          length_kept =
+              ap length is
+              ∙ omega (arith, length-append (row_bytes (take (c + 1) row)) (drop ((c + 1) * 4) old), bytes_length (take (c + 1) row), length-take-le (c + 1) row (omega arith), length-drop ((c + 1) * 4) old);
+          is = is;
         }

@@ -5,7 +5,7 @@ use mathlib.Core.List.{List, [], ◌∷◌, ◌++◌}
 use Prim.Native.Nat.{ℕ, zero, suc, ◌+◌, ◌-◌, ◌≤◌, ◌<◌}
 use native.Mathlib.Omega.{arith}
 use lib.Dec.{eqb, leb, ltb}
-use lib.ListN.{length, get_or, take, drop, replicate}
+use lib.ListN.{length, get_or, take, drop, set, replicate}
 use lib.Seq.{take-append-add}
 use borrow.Author.Tests.{eq-eqb, ne_eqb, lt-ltb, le-ltb, le-leb, lt-leb}
 use Rattle.definition.specs.Elements.{among}
@@ -38,6 +38,10 @@ wide {r} {w} fits e =
     let a : length r + k ≡ 50 = omega arith in
     let b : take 50 (r ++ zs 50) ≡ r ++ zs k = ap (λ (n : ℕ). take n (r ++ zs 50)) (sym a) ∙ take-append-add r (zs 50) k ∙ ap (λ (l : List ℕ). r ++ l) (take_zeros k 50 (omega arith)) in
     rw (e, drop_zeros k (length r) 50 a, b)
+
+pub shown_lem : (st : Table) (k : ℕ) (r : Row) {a b : ℕ} {w : Row} → a ≡ num (row_of st k) 0 → b ≡ num (row_of st k) 1 → w ≡ widened r → set (set w 48 a) 49 b ≡ shown_with st k r
+unfolding shown_with with_cell cell_at
+shown_lem st k r e f g = rw (e, f, g)
 
 -- ---- places
 

@@ -2,9 +2,10 @@
 
 #![tactic(auto)]
 
-ghost use Rattle.std.specs.Prelude.{◌≡◌, ◌&&◌, [], ◌++◌, ◌≤◌, length, drop, eqb, ltb};
+ghost use Rattle.std.specs.Prelude.{◌≡◌, ◌&&◌, [], ◌++◌, ◌≤◌, ◌<◌, length, drop, eqb, ltb};
 ghost use Rattle.definition.specs.Limits.{limits01};
-ghost use Rattle.definition.specs.Rows.{row_of, num, with_cell};
+ghost use Rattle.definition.specs.Rows.{row_of, num};
+ghost use Rattle.definition.specs.Actions.{place_of_number};
 ghost use Rattle.definition.specs.Reader as R;
 ghost use Rattle.rows.specs.Lent.{seen_of};
 ghost use Rattle.reading.specs.Bytes.{row_bytes, row_length, out_of, row_out};
@@ -52,36 +53,21 @@ impl TryFrom<u32> for RowKind {
     }
 }
 
-/// A row as it is read has as many numbers as the widest table's and two for a name; as bytes it is four times as long.
+/// Lengths, and no kinds: a row as it is read has as many numbers as the widest table's and two for a name; as bytes it is four times as long.
 pub const WIDTH: usize = 50;
 
 pub const BYTES: usize = 200;
 
-// Zeros stand behind a row; then a name's cell.
-fn show(row: &[u32], at: u32, len: u32) -> [u32; WIDTH]
-    requires { length row.now ≤ 48 }
-    ensures { result ≡ with_cell 48 (record { at = at; len = len }) (R.widened row.now) }
-{
-    let mut shown = [0u32; WIDTH];
-    shown[..row.len()].copy_from_slice(row);
-    shown[48] = at;
-    shown[49] = len;
-    shown
-}
-
-fn show_plain(row: &[u32]) -> [u32; WIDTH]
-    requires { length row.now ≤ 48 }
-    ensures { result ≡ shown_with [] 0 row.now }
-{
-    show(row, 0, 0)
-}
-
-// Entries and invokes keep a state, and show its name.
-fn show_named(row: &[u32], states: &[[u32; 24]], s: StateId) -> [u32; WIDTH]
+// Zeros stand behind a row; then the name of the state that it keeps. Of state 0 there is none.
+fn show(row: &[u32], states: &[[u32; 24]], s: StateId) -> [u32; WIDTH]
     requires { length row.now ≤ 48 }
     ensures { result ≡ shown_with states.now s.0 row.now }
 {
-    show(row, state_cell(states, s, 0), state_cell(states, s, 1))
+    let mut shown = [0u32; WIDTH];
+    shown[..row.len()].copy_from_slice(row);
+    shown[48] = state_cell(states, s, StateColumn::NAME);
+    shown[49] = state_cell(states, s, StateColumn::NAME_LENGTH);
+    shown
 }
 
 // Numbered by creation from 1; 0 where there is none.
@@ -95,6 +81,7 @@ fn place_in(count: usize, number: u32) -> usize
     number as usize
 }
 
+// The place lies within: past the end the definition has a row without cells, and the table none.
 fn row_at<const N: usize>(rows: &[[u32; N]], place: usize) -> Result<[u32; N], Refusal>
     requires { place ≤ length rows.now }
     ensures { RowAt rows.now place result }
@@ -112,7 +99,23 @@ fn at<const N: usize>(rows: &[[u32; N]], place: usize) -> Result<[u32; WIDTH], R
     ensures { reading_in result ≡ read_at [] 0 place (row_of rows.now place) }
 {
     let row = row_at(rows, place)?;
-    Ok(show_plain(&row))
+    Ok(show(&row, &[], StateId(0)))
+}
+
+// A row that keeps a state in a column.
+fn named_at<const N: usize>(
+    rows: &[[u32; N]],
+    place: usize,
+    states: &[[u32; 24]],
+    column: usize,
+) -> Result<[u32; WIDTH], Refusal>
+    requires width { N ≤ 48 }
+    requires there { place ≤ length rows.now }
+    requires within { column < N }
+    ensures { reading_in result ≡ read_at states.now (num (row_of rows.now place) column) place (row_of rows.now place) }
+{
+    let row = row_at(rows, place)?;
+    Ok(show(&row, states, StateId(row[column])))
 }
 
 // The chart's row is there from the first scxml on.
@@ -129,46 +132,15 @@ fn read_chart(chart: &[[u32; 24]], number: u32) -> Result<[u32; WIDTH], Refusal>
     at(chart, place)
 }
 
-fn read_transition(transitions: &[[u32; 8]], t: TransitionId) -> Result<[u32; WIDTH], Refusal>
-    ensures { reading_in result ≡ read_at [] 0 (own_place transitions.now t.0) (row_of transitions.now (own_place transitions.now t.0)) }
+// A row with a number of its own, which is never 0.
+fn read_own(rows: &[[u32; 8]], number: u32, place: usize) -> Result<[u32; WIDTH], Refusal>
+    requires { place ≡ place_of_number rows.now number }
+    ensures { reading_in result ≡ read_at [] 0 (own_place rows.now number) (row_of rows.now (own_place rows.now number)) }
 {
-    if t.0 == 0 {
+    if number == 0 {
         return Err(Refusal::NoRow);
     }
-    at(transitions, transition_place(transitions, t))
-}
-
-fn read_region(regions: &[[u32; 8]], g: RegionId) -> Result<[u32; WIDTH], Refusal>
-    ensures { reading_in result ≡ read_at [] 0 (own_place regions.now g.0) (row_of regions.now (own_place regions.now g.0)) }
-{
-    if g.0 == 0 {
-        return Err(Refusal::NoRow);
-    }
-    at(regions, region_place(regions, g))
-}
-
-fn entry_at(
-    entries: &[[u32; 48]],
-    states: &[[u32; 24]],
-    place: usize,
-) -> Result<[u32; WIDTH], Refusal>
-    requires { place ≤ length entries.now }
-    ensures { reading_in result ≡ read_at states.now (num (row_of entries.now place) 2) place (row_of entries.now place) }
-{
-    let row = row_at(entries, place)?;
-    Ok(show_named(&row, states, StateId(row[EntryColumn::STATE])))
-}
-
-fn invoke_at(
-    invokes: &[[u32; 24]],
-    states: &[[u32; 24]],
-    place: usize,
-) -> Result<[u32; WIDTH], Refusal>
-    requires { place ≤ length invokes.now }
-    ensures { reading_in result ≡ read_at states.now (num (row_of invokes.now place) 0) place (row_of invokes.now place) }
-{
-    let row = row_at(invokes, place)?;
-    Ok(show_named(&row, states, StateId(row[InvokeColumn::STATE])))
+    at(rows, place)
 }
 
 // A parameter of a donedata that another replaced has left the chart.
@@ -208,25 +180,29 @@ fn read(used: Tables<'_>, kind: RowKind, number: u32) -> Result<[u32; WIDTH], Re
     match kind {
         RowKind::Chart => read_chart(used.chart, number),
         RowKind::State => at(used.states, place_in(used.states.len(), number)),
-        RowKind::Transition => read_transition(used.transitions, TransitionId(number)),
-        RowKind::Region => read_region(used.regions, RegionId(number)),
-        RowKind::Entry => entry_at(
-            used.entries,
-            used.states,
-            place_in(used.entries.len(), number),
-        ),
-        RowKind::Invoke => invoke_at(
-            used.invokes,
-            used.states,
-            place_in(used.invokes.len(), number),
-        ),
+        RowKind::Transition => {
+            let place = transition_place(used.transitions, TransitionId(number));
+            read_own(used.transitions, number, place)
+        }
+        RowKind::Region => {
+            let place = region_place(used.regions, RegionId(number));
+            read_own(used.regions, number, place)
+        }
+        RowKind::Entry => {
+            let place = place_in(used.entries.len(), number);
+            named_at(used.entries, place, used.states, EntryColumn::STATE)
+        }
+        RowKind::Invoke => {
+            let place = place_in(used.invokes.len(), number);
+            named_at(used.invokes, place, used.states, InvokeColumn::STATE)
+        }
         RowKind::Datum => at(used.datums, place_in(used.datums.len(), number)),
         RowKind::Parameter => read_parameter(used.parameters, used.states, number),
         RowKind::Member => at(used.members, place_in(used.members.len(), number)),
     }
 }
 
-/// A row by kind and number, or the first no of questions 1, 2 and 16.
+/// A row by kind and number, or the first no of questions 1, 2 and 16. The kind is a number, as C gives it.
 pub fn read_row(
     tables: Tables<'_>,
     p: Position,
@@ -246,11 +222,7 @@ fn put_row(row: [u32; WIDTH], out: &mut [u8])
     ensures { out.new ≡ row_bytes row ++ drop row_length out.old }
 {
     for (c, v) in row.iter().enumerate() {
-        let at = c * 4;
-        out[at] = (*v % 256) as u8;
-        out[at + 1] = (*v / 256 % 256) as u8;
-        out[at + 2] = (*v / 65536 % 256) as u8;
-        out[at + 3] = (*v / 16777216 % 256) as u8;
+        out[c * 4..c * 4 + 4].copy_from_slice(&v.to_le_bytes());
     }
 }
 

@@ -3,19 +3,22 @@
 
 #![tactic(auto)]
 
-ghost use Rattle.std.specs.Prelude.{◌≡◌, ◌<◌, suc, if◌then◌else◌};
+ghost use Rattle.std.specs.Prelude.{◌≡◌, ◌<◌, suc, Some, None, if◌then◌else◌};
 ghost use Rattle.definition.specs.Change.{◌▷◌};
-ghost use Rattle.plan.specs.Plan.{no_state, keeping, counting, on_region, on_open_regions, on_counters};
-ghost use Rattle.plan.specs.Plans.{begun, one_region, initial_to, region_p, end_listed_p, both_listed_p, end_finalize_p, both_finalize_p, transition_plan, transition_by, start_transition_p, both_transition_p, end_transition_p};
+ghost use Rattle.plan.specs.Plan.{member, keeping, counting, on_region, on_open_regions, on_counters};
+ghost use Rattle.plan.specs.Plans.{begun, one_region, finalize_to, initial_to, region_p, end_listed_p, both_listed_p, end_finalize_p, both_finalize_p, transition_plan, transition_by, start_transition_p, both_transition_p, end_transition_p};
 ghost use Rattle.decision.specs.Told.{told};
 
 use decision::{
-    Decision, begun, counting, ended, idle_in, inside, keeping, member, needs, one_member,
-    one_region, some_words,
+    Decision, begun, closed, counting, ended, idle_in, inside, keeping, needs, one_member,
+    one_region,
 };
 use definition::codes::{ListKind, Refusal, Tag};
 use definition::{RegionId, StateId, TransitionId};
-use plan::{Heard, InvokePlan, MemberPlan, MembersPlan, Plan, Seen, StatePlan, TransitionPlan};
+use plan::{
+    Heard, InvokeChange, InvokePlan, MemberPlan, MembersPlan, NewTransition, Plan, Seen, Shape,
+    StatePlan, TargetPlan, TransitionChange, TransitionPlan,
+};
 
 /// A region is drawn, and no other stays open.
 #[tactic(auto, unfolding(plan::specs::Plans::begun))]
@@ -42,48 +45,91 @@ pub fn start_region(v: Seen) -> Decision
 }
 
 /// The region joins the state's onentry or onexit.
-#[tactic(auto, unfolding(plan::specs::Plans::end_listed_p, plan::specs::Plans::closing_p, plan::specs::Plans::unless_zero_p))]
-pub fn end_listed(list: u32, v: Seen) -> Decision
+#[tactic(auto, unfolding(plan::specs::Plans::end_listed_p, plan::specs::Plans::closed_p, plan::specs::Plans::unless_zero_p))]
+fn end_listed(list: ListKind, v: Seen) -> Decision
     ensures { told result ≡ end_listed_p list v }
 {
-    needs(v.closed.met)?;
+    let x = closed(v)?;
     needs(v.state.0)?;
+    let joins = MemberPlan {
+        list,
+        owner: v.state.0,
+        value: v.current.0,
+    };
     Ok(Plan {
-        members: one_member(list, v.state.0, v.current.0),
-        ..ended(v)
+        members: one_member(joins),
+        ..ended(x, v)
     })
+}
+
+pub fn end_onentry(v: Seen) -> Decision
+    ensures { told result ≡ end_listed_p ListKind.Onentry v }
+{
+    end_listed(ListKind::Onentry, v)
+}
+
+pub fn end_onexit(v: Seen) -> Decision
+    ensures { told result ≡ end_listed_p ListKind.Onexit v }
+{
+    end_listed(ListKind::Onexit, v)
 }
 
 /// Afterwards no region is current.
 #[tactic(auto, unfolding(plan::specs::Plans::both_listed_p, plan::specs::Plans::passing, plan::specs::Plans::unless_zero_p))]
-pub fn both_listed(list: u32, v: Seen) -> Decision
+fn both_listed(list: ListKind, v: Seen) -> Decision
     requires { v.ids < 65536 }
     ensures { told result ≡ both_listed_p list v }
 {
     needs(v.state.0)?;
+    let joins = MemberPlan {
+        list,
+        owner: v.state.0,
+        value: v.ids + 1,
+    };
     Ok(Plan {
-        members: one_member(list, v.state.0, v.ids + 1),
+        members: one_member(joins),
         ..drawn(RegionId(0), v)
     })
 }
 
+pub fn both_onentry(v: Seen) -> Decision
+    requires { v.ids < 65536 }
+    ensures { told result ≡ both_listed_p ListKind.Onentry v }
+{
+    both_listed(ListKind::Onentry, v)
+}
+
+pub fn both_onexit(v: Seen) -> Decision
+    requires { v.ids < 65536 }
+    ensures { told result ≡ both_listed_p ListKind.Onexit v }
+{
+    both_listed(ListKind::Onexit, v)
+}
+
+fn finalize_to(at: u32, region: RegionId) -> InvokePlan
+    ensures { result ≡ finalize_to at region.0 }
+{
+    InvokePlan {
+        added: None,
+        altered: Some(InvokeChange {
+            at,
+            finalize: Some(region.0),
+            filled: false,
+        }),
+    }
+}
+
 /// The invoke gets its finalize.
-#[tactic(auto, unfolding(plan::specs::Plans::end_finalize_p, plan::specs::Plans::closing_p, plan::specs::Plans::unless_zero_p))]
+#[tactic(auto, unfolding(plan::specs::Plans::end_finalize_p, plan::specs::Plans::closed_p, plan::specs::Plans::unless_zero_p))]
 pub fn end_finalize(v: Seen) -> Decision
-    requires { v.current.0 < 65536 }
     ensures { told result ≡ end_finalize_p v }
 {
-    needs(v.closed.met)?;
+    let x = closed(v)?;
     needs(v.state.0)?;
     needs(v.invoke)?;
-    let row = InvokePlan {
-        at: v.invoke,
-        finalize: v.current.0 + 1,
-        ..InvokePlan::default()
-    };
     Ok(Plan {
-        invokes: row,
-        ..ended(v)
+        invokes: finalize_to(v.invoke, v.current),
+        ..ended(x, v)
     })
 }
 
@@ -94,30 +140,38 @@ pub fn both_finalize(v: Seen) -> Decision
 {
     needs(v.state.0)?;
     needs(v.invoke)?;
-    let row = InvokePlan {
-        at: v.invoke,
-        finalize: v.ids + 2,
-        ..InvokePlan::default()
-    };
     Ok(Plan {
-        invokes: row,
+        invokes: finalize_to(v.invoke, RegionId(v.ids + 1)),
         ..drawn(RegionId(0), v)
     })
 }
 
 /// Inside `initial` it is the state's initial.
-fn initial_for(inner: bool, s: StateId, t: TransitionId) -> StatePlan
-    requires { t.0 < 65600 }
-    ensures { result ≡ (if inner then initial_to s.0 t.0 else no_state) }
+fn initial_for(inner: bool, s: StateId, t: TransitionId) -> Option<StatePlan>
+    ensures { result ≡ (if inner then Some (initial_to s.0 t.0) else None) }
 {
     if !inner {
-        return StatePlan::default();
+        return None;
     }
-    StatePlan {
+    Some(StatePlan {
         at: s,
-        initial: t.0 + 1,
+        initial: Some(t.0),
         ..StatePlan::default()
+    })
+}
+
+/// Elsewhere it joins the state's transitions.
+fn joins_for(inner: bool, s: StateId, t: TransitionId) -> Option<MemberPlan>
+    ensures { result ≡ (if inner then None else Some (member ListKind.Transitions s.0 t.0)) }
+{
+    if inner {
+        return None;
     }
+    Some(MemberPlan {
+        list: ListKind::Transitions,
+        owner: s.0,
+        value: t.0,
+    })
 }
 
 /// "Transition: transition number, doc id, region number, targets." Where it is no initial, it joins the state's transitions.
@@ -128,29 +182,35 @@ fn transition_plan(inner: bool, content: RegionId, v: Seen, q: Heard) -> Plan
 {
     let t = TransitionId(v.ids + 1);
     let region = RegionId(v.ids + 2);
-    let row = TransitionPlan {
+    let row = NewTransition {
         number: t,
         doc: v.docs + 1,
         source: v.state,
         mode: q.mode,
         wildcard: q.wildcard,
         content,
-        texts: 1,
-        ..TransitionPlan::default()
+        texts: Some(Shape::First),
     };
-    let joins = if inner {
-        MemberPlan::default()
-    } else {
-        member(ListKind::Transitions.number(), v.state.0, t.0)
+    let events = MemberPlan {
+        list: ListKind::Events,
+        owner: t.0,
+        value: q.events,
     };
     let members = MembersPlan {
-        owner: t.0,
-        one: joins,
-        ..some_words(ListKind::Events.number(), t.0, q.events)
+        words: Some(events),
+        targets: Some(TargetPlan {
+            owner: t.0,
+            skip: 0,
+        }),
+        one: joins_for(inner, v.state, t),
+        two: None,
     };
     Plan {
         states: initial_for(inner, v.state, t),
-        transitions: row,
+        transitions: TransitionPlan {
+            added: Some(row),
+            altered: None,
+        },
         regions: one_region(region),
         members,
         pending: keeping(0),
@@ -194,19 +254,21 @@ pub fn both_transition(v: Seen, q: Heard) -> Decision
 }
 
 /// It gets its content.
-#[tactic(auto, unfolding(plan::specs::Plans::end_transition_p, plan::specs::Plans::closing_p, plan::specs::Plans::unless_zero_p))]
+#[tactic(auto, unfolding(plan::specs::Plans::end_transition_p, plan::specs::Plans::closed_p, plan::specs::Plans::unless_zero_p))]
 pub fn end_transition(v: Seen) -> Decision
     ensures { told result ≡ end_transition_p v }
 {
-    needs(v.closed.met)?;
+    let x = closed(v)?;
     needs(v.transition.0)?;
-    let row = TransitionPlan {
+    let row = TransitionChange {
         at: v.place,
-        region: v.current,
-        ..TransitionPlan::default()
+        content: v.current,
     };
     Ok(Plan {
-        transitions: row,
-        ..ended(v)
+        transitions: TransitionPlan {
+            added: None,
+            altered: Some(row),
+        },
+        ..ended(x, v)
     })
 }

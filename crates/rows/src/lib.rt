@@ -2,22 +2,15 @@
 
 #![tactic(auto)]
 
-ghost use Rattle.std.specs.Prelude.{◌≡◌, ◌<◌, ◌^◌, take, set, None, Some, MatchOption, position, ◌==◌};
+ghost use Rattle.std.specs.Prelude.{◌≡◌, ◌<◌, ◌^◌, [], get_or, take, set, None, Some, MatchOption, position, ◌==◌};
 ghost use Rattle.definition.specs.Rows.{row_of, num, text_from};
 ghost use Rattle.definition.specs.Actions.{place_of_number};
 ghost use Rattle.rows.specs.Place.{row_at, altered};
 
+use definition::cells::ChartColumn;
 use definition::{RegionId, StateId, TransitionId};
 
 pub mod lent;
-
-/// A number as a place.
-pub fn index(x: u32) -> usize
-    ensures value { result ≡ x }
-    ensures upper_bound { result < 2 ^ 32 }
-{
-    x as usize
-}
 
 /// The rows in use of a table, or the bytes of a text: the first n, as far as there are so many.
 pub fn first<T>(rows: &[T], n: u32) -> &[T]
@@ -71,6 +64,16 @@ pub fn state_cell(states: &[[u32; 24]], s: StateId, c: usize) -> u32
 {
     match row_of(states, s.0) {
         Some(row) => row[c],
+        None => 0,
+    }
+}
+
+/// The chart's root; 0 where there is no row.
+pub fn root_of(chart: &[[u32; 24]]) -> u32
+    ensures { result ≡ num (get_or chart.now 0 []) 0 }
+{
+    match chart.first() {
+        Some(row) => row[ChartColumn::ROOT],
         None => 0,
     }
 }

@@ -25,20 +25,20 @@ pub fn transition_keeps(row: [u32; 8], k: &Known) -> bool
 pub fn region_keeps(row: [u32; 8], k: &Known) -> bool
     ensures { RowTest k.now region_columns row result }
 {
-    ((1 <= row[0]) & (row[0] <= k.ids)) & zeros(&row, 1, 7)
+    ((1 <= row[0]) & (row[0] <= k.ids)) & zeros(&row[1..8])
 }
 
 pub fn datum_keeps(row: [u32; 8], k: &Known) -> bool
     ensures { RowTest k.now datum_columns row result }
 {
-    k.state_or_zero(StateId(row[0])) & (texts(&row, 1, 3, k.used) & zeros(&row, 7, 1))
+    k.state_or_zero(StateId(row[0])) & (texts(&row[1..7], k.used) & zeros(&row[7..8]))
 }
 
 pub fn parameter_keeps(row: [u32; 8], k: &Known) -> bool
     ensures { RowTest k.now parameter_columns row result }
 {
     ((1 <= row[0]) & (row[0] <= 3))
-        & (k.parameter_owner_keeps(row[0], row[1]) & texts(&row, 2, 3, k.used))
+        & (k.parameter_owner_keeps(row[0], row[1]) & texts(&row[2..8], k.used))
 }
 
 pub fn member_keeps(row: [u32; 8], k: &Known) -> bool
@@ -47,7 +47,7 @@ pub fn member_keeps(row: [u32; 8], k: &Known) -> bool
     ((1 <= row[0]) & (row[0] <= 9))
         & (k.member_owner_keeps(row[0], row[1])
             & (k.member_value_keeps(row[0], row[2])
-                & (inside(k.used, row[3], row[4]) & zeros(&row, 5, 3))))
+                & (inside(k.used, row[3], row[4]) & zeros(&row[5..8]))))
 }
 
 pub fn opened_keeps(row: [u32; 8], k: &Known) -> bool
@@ -55,13 +55,13 @@ pub fn opened_keeps(row: [u32; 8], k: &Known) -> bool
 {
     (row[0] <= 27)
         & (k.state_or_zero(StateId(row[1]))
-            & (k.transition_or_zero(TransitionId(row[2])) & zeros(&row, 4, 4)))
+            & (k.transition_or_zero(TransitionId(row[2])) & zeros(&row[4..8])))
 }
 
 pub fn open_region_keeps(row: [u32; 8], k: &Known) -> bool
     ensures { RowTest k.now open_region_columns row result }
 {
-    k.region_or_zero(RegionId(row[0])) & zeros(&row, 2, 6)
+    k.region_or_zero(RegionId(row[0])) & zeros(&row[2..8])
 }
 
 pub fn chart_keeps(row: [u32; 24], k: &Known) -> bool
@@ -69,7 +69,7 @@ pub fn chart_keeps(row: [u32; 24], k: &Known) -> bool
 {
     k.state_or_zero(StateId(row[0]))
         & (k.region_or_zero(RegionId(row[1]))
-            & ((row[2] <= 1) & (texts(&row, 3, 3, k.used) & zeros(&row, 9, 15))))
+            & ((row[2] <= 1) & (texts(&row[3..9], k.used) & zeros(&row[9..24]))))
 }
 
 pub fn state_keeps(row: [u32; 24], k: &Known) -> bool
@@ -84,7 +84,8 @@ pub fn state_keeps(row: [u32; 24], k: &Known) -> bool
                             & ((row[7] <= 2)
                                 & (up_to_next(row[8], k.parameters)
                                     & ((row[9] <= 1)
-                                        & (texts(&row, 10, 2, k.used) & zeros(&row, 14, 10))))))))))
+                                        & (texts(&row[10..14], k.used)
+                                            & zeros(&row[14..24]))))))))))
 }
 
 pub fn invoke_keeps(row: [u32; 24], k: &Known) -> bool
@@ -93,7 +94,7 @@ pub fn invoke_keeps(row: [u32; 24], k: &Known) -> bool
     k.state_or_zero(StateId(row[0]))
         & ((row[1] <= 1)
             & (k.region_or_zero(RegionId(row[2]))
-                & ((row[3] <= 1) & (texts(&row, 4, 8, k.used) & zeros(&row, 20, 4)))))
+                & ((row[3] <= 1) & (texts(&row[4..20], k.used) & zeros(&row[20..24])))))
 }
 
 pub fn entry_keeps(row: [u32; 48], k: &Known) -> bool
@@ -104,7 +105,7 @@ pub fn entry_keeps(row: [u32; 48], k: &Known) -> bool
             & (k.state_or_zero(StateId(row[2]))
                 & (k.content_keeps(row[1], RegionId(row[3]), RegionId(row[0]))
                     & (k.else_keeps(row[1], RegionId(row[4]), RegionId(row[0]))
-                        & ((row[5] <= 1) & (texts(&row, 6, 19, k.used) & zeros(&row, 44, 4)))))))
+                        & ((row[5] <= 1) & (texts(&row[6..44], k.used) & zeros(&row[44..48])))))))
 }
 
 /// Whether each row of a table keeps its columns' classes; `keeps` says it of a row and of what rows are held against.

@@ -5,6 +5,7 @@ use mathlib.Core.Bool.{Bool, true, false, not, ◌||◌, ◌&&◌}
 use lib.ListN.{length}
 use lib.Dec.{eqb}
 use borrow.Author.Tests.{eqb-true}
+use Rattle.std.specs.Prelude.{Option}
 use Rattle.definition.specs.Rows.{Table, table, num, row_of, innermost, current_state, current_transition, parent_tag, root, Numbers, table_of, Store}
 use Rattle.definition.specs.Look.{Look}
 use Rattle.definition.specs.Reader.{rows_in, position_of}
@@ -58,7 +59,7 @@ kind_is true t k = refl
 kind_is false t k = refl
 
 -- An else closes its if at every kind, so its walk begins where it did.
-walk_masked : (k g steps : ℕ) (x : Closing) (t : Table) → walked_if (is_else g) (walk_after (closing_if (does_close k g) x) steps t) ≡ walked_if (is_else g) (walk_after x steps t)
+walk_masked : (k g steps : ℕ) (x : Option Closing) (t : Table) → walked_if (is_else g) (walk_after (closing_if (does_close k g) x) steps t) ≡ walked_if (is_else g) (walk_after x steps t)
 unfolding does_close walked_if closing_if
 walk_masked k g steps x t = go (is_else g) (not (is_open k) && closes_own g)
   where
@@ -114,9 +115,9 @@ module _ (s : Store) (l : Look) where
       }
 
   -- The plan of what the code sees is the definition's.
-  pub plan_of_seen : plan_by l.kind seen_in (heard l) ≡ plan_of n l
+  pub plan_of_seen : plan_by l.kind g seen_in (heard l) ≡ plan_of n l
   unfolding plan_of heard
-  plan_of_seen = ap (λ (v : Seen). plan_by l.kind v (heard l)) seen_all ∙ enough l.kind (seen n l) (heard l)
+  plan_of_seen = ap (λ (v : Seen). plan_by l.kind g v (heard l)) seen_all ∙ enough l.kind g (seen n l) (heard l)
 
   -- And its numbers are as small.
   pub small_seen : Small (seen n l) (heard l) → Small seen_in (heard l)

@@ -4,17 +4,18 @@ use mathlib.Core.Path.{◌≡◌, refl}
 use mathlib.Core.Bool.{Bool, true, false}
 use mathlib.Core.List.{[], ◌∷◌}
 use lib.ListN.{length}
-use Rattle.std.proofs.Common.{◌-◌, slice_get, Some, None}
 use lib.Dec.{eqb}
 use native.Mathlib.Omega.{arith}
+use Rattle.std.proofs.Common.{◌-◌, slice_get, Option, Some, None}
 use Rattle.definition.specs.Rows.{Row, Table, table, num, row_of, last_of, Numbers, table_of}
 use Rattle.definition.specs.Actions.{last_with, last_entry, Walk, meets, no_if, else_walk, walk_from}
 use Rattle.plan.specs.declared.Closing.{Closing}
 use Rattle.plan.specs.declared.Walked.{Walked}
+use Rattle.plan.specs.declared.Walked.TheVariants.{NoIf, Met}
 use Rattle.plan.specs.Ids.{state_id, transition_id}
 use Rattle.plan.specs.Seen.{walked_as, walk_in}
 use Rattle.see.specs.Scans.{walk_over}
-use Rattle.see.specs.View.{walk_at, walk_by, walk_after, inside_of}
+use Rattle.see.specs.View.{walk_at, walk_after, inside_of}
 
 -- ---- the innermost open element
 
@@ -40,41 +41,22 @@ pub inside_none : (t : Table) → slice_get t (length t - 1) ≡ None → record
 unfolding inside_of last_of
 inside_none t e = let z : t ≡ [] = last_none t e in rw z
 
--- ---- the else walk
-
-pub after_none : (m c n : ℕ) (t : Table) → m ≡ 0 → record { met = 0; at = 0 } ≡ walk_by m c n t
-unfolding walk_by
-after_none zero c n t e = refl
-after_none (suc m) c n t e = absurd (omega arith)
-
-pub after_root : (m c n : ℕ) (t : Table) → ¬ (m ≡ 0) → c ≡ 0 → record { met = 1; at = 0 } ≡ walk_by m c n t
-unfolding walk_by walk_at
-after_root zero c n t h e = absurd (h refl)
-after_root (suc m) zero n t h e = refl
-after_root (suc m) (suc c) n t h e = absurd (omega arith)
-
-pub after_some : (m c n : ℕ) (t : Table) → ¬ (m ≡ 0) → ¬ (c ≡ 0) → walk_over n t c ≡ walk_by m c n t
-unfolding walk_by walk_at
-after_some zero c n t h e = absurd (h refl)
-after_some (suc m) zero n t h e = absurd (e refl)
-after_some (suc m) (suc c) n t h e = refl
-
 -- ---- the definition's own functions, of the rows in use
 
 walk_is : (f : ℕ) (n : Numbers) (r : ℕ) → walk_over f (table_of n 4) r ≡ walked_as (else_walk f n r)
 unfolding walk_over else_walk walked_as last_entry
 walk_is zero n r = refl
 walk_is (suc f) n r = go (eqb (num (row_of (table_of n 4) (last_with 0 r 0 0 (table_of n 4))) 1) 1) (eqb (num (row_of (table_of n 4) (last_with 0 r 0 0 (table_of n 4))) 4) 0) _ (else_walk f n (num (row_of (table_of n 4) (last_with 0 r 0 0 (table_of n 4))) 4)) (walk_is f n (num (row_of (table_of n 4) (last_with 0 r 0 0 (table_of n 4))) 4)) where
-  go : (a b : Bool) (W : Walked) (X : Walk) → W ≡ walked_as X → elim a [ false ↦ record { met = 0; at = 0 } | true ↦ elim b [ true ↦ record { met = 1; at = last_with 0 r 0 0 (table_of n 4) } | false ↦ W ] ]
+  go : (a b : Bool) (W : Walked) (X : Walk) → W ≡ walked_as X → elim a [ false ↦ NoIf | true ↦ elim b [ true ↦ Met (last_with 0 r 0 0 (table_of n 4)) | false ↦ W ] ]
       ≡ walked_as (elim a [ false ↦ no_if | true ↦ elim b [ true ↦ meets (last_with 0 r 0 0 (table_of n 4)) | false ↦ X ] ])
   go false b W X e = refl
   go true true W X e = refl
   go true false W X e = e
 
-pub walk_in_lem : (n : Numbers) (x : Closing) → walk_after x (length (table_of n table.regions)) (table_of n table.entries) ≡ walk_in n x
-unfolding walk_after walk_in walk_by walk_at walk_from walked_as
-walk_in_lem n x = go x.met x.current.0 where
-  go : (m c : ℕ) → walk_by m c (length (table_of n 3)) (table_of n 4) ≡ elim m [ zero ↦ record { met = 0; at = 0 } | suc i ↦ walked_as (walk_from n c) ]
-  go zero c = refl
-  go (suc m) zero = refl
-  go (suc m) (suc c) = walk_is (length (table_of n 3)) n (suc c)
+pub walk_in_lem : (n : Numbers) (x : Option Closing) → walk_after x (length (table_of n table.regions)) (table_of n table.entries) ≡ walk_in n x
+unfolding walk_after walk_in walk_at walk_from walked_as
+walk_in_lem n None = refl
+walk_in_lem n (Some x) = go x.current.0 where
+  go : (c : ℕ) → walk_at (length (table_of n 3)) (table_of n 4) c ≡ walked_as (walk_from n c)
+  go zero = refl
+  go (suc c) = walk_is (length (table_of n 3)) n (suc c)

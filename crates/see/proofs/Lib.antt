@@ -1,6 +1,5 @@
 pub mod Scans
 pub mod Cells
-pub mod Told
 pub mod Enough
 pub mod All
 pub mod Nexts

@@ -5,16 +5,17 @@ use mathlib.Core.Bool.{Bool, true, false, ◌&&◌, ◌||◌}
 use mathlib.Core.List.{[], ◌∷◌, ◌++◌}
 use lib.ListN.{length, get_or, drop, length-append, get_or-append}
 use lib.Seq.{drop-cons, get_or-append_seam}
-use Rattle.std.proofs.Common.{◌≢◌, Option, Some, None, MatchOption}
 use lib.Dec.{eqb}
 use borrow.Author.Tests.{eq-eqb, ne_eqb}
 use native.Mathlib.Omega.{arith}
+use Rattle.std.proofs.Common.{◌≢◌, Option, Some, None, MatchOption}
 use Rattle.definition.specs.Elements.{among}
 use Rattle.definition.specs.Rows.{Row, Table, num, row_of, same_list, listed, values_of}
 use Rattle.definition.specs.Actions.{last_with}
 pub use Rattle.definition.proofs.Base.{test as by}
 use Rattle.plan.specs.declared.Closing.{Closing}
 use Rattle.plan.specs.declared.Walked.{Walked}
+use Rattle.plan.specs.declared.Walked.TheVariants.{NoIf, Met}
 use Rattle.plan.specs.Ids.{region_id}
 use Rattle.plan.specs.Seen.{closed_at, first_child_or}
 use Rattle.see.specs.Scans.{walk_over, is_child_in, IsLast}
@@ -79,21 +80,21 @@ child_cons p s x xs = go (same_list 1 p x) refl (eqb s (num x 2)) refl where
 
 -- ---- closing
 
-pub close_none : (g : ℕ) (t : Table) (k c : ℕ) → c ≡ 0 → record { met = 0; current = region_id 0; kept = 0 } ≡ closed_at g t k c
+pub close_none : (g : ℕ) (t : Table) (k c : ℕ) → c ≡ 0 → None ≡ closed_at g t k c
 unfolding closed_at
 close_none g t zero zero e = refl
 close_none g t (suc k) zero e = refl
 close_none g t k (suc c) e = absurd (omega arith)
 
-pub close_all : (g : ℕ) (t : Table) (k c : ℕ) → ¬ (c ≡ 0) → k ≡ 0 → record { met = 1; current = region_id 0; kept = 0 } ≡ closed_at g t k c
+pub close_all : (g : ℕ) (t : Table) (k c : ℕ) → ¬ (c ≡ 0) → k ≡ 0 → Some (record { current = region_id 0; kept = 0 }) ≡ closed_at g t k c
 unfolding closed_at
 close_all g t k zero h e = absurd (h refl)
 close_all g t zero (suc c) h e = refl
 close_all g t (suc k) (suc c) h e = absurd (omega arith)
 
 -- What the j-th region, with row x, closes; w is what is closed of those around it.
-abbrev met_at : ℕ → ℕ → Row → Closing → Closing
-met_at g j x w = elim (eqb (num x 1) g) [ true ↦ record { met = 1; current = region_id (num x 0); kept = j } | false ↦ w ]
+abbrev met_at : ℕ → ℕ → Row → Option Closing → Option Closing
+met_at g j x w = elim (eqb (num x 1) g) [ true ↦ Some (record { current = region_id (num x 0); kept = j }) | false ↦ w ]
 
 -- Only the first j regions are looked at.
 close_front : (g : ℕ) (t u : Table) (j c : ℕ) → ((k : ℕ) → k < j → get_or t k [] ≡ get_or u k []) → closed_at g t j c ≡ closed_at g u j c
@@ -122,7 +123,7 @@ module _ (g : ℕ) (t u : Table) (r : Row) (c : ℕ) (h : ¬ (c ≡ 0)) (e : t �
       go (suc c) h =
           ap (λ (k : ℕ). closed_at g t k (suc c)) n ∙ ap (λ (x : Row). met_at g (length u) x (closed_at g t (length u) (num x 0))) last ∙ ap (met_at g (length u) r) (close_front g t u (length u) (num r 0) front)
 
-  pub close_here : num r 1 ≡ g → record { met = 1; current = region_id (num r 0); kept = length u } ≡ closed_at g t (length t) c
+  pub close_here : num r 1 ≡ g → Some (record { current = region_id (num r 0); kept = length u }) ≡ closed_at g t (length t) c
   close_here f = sym (close_step ∙ rw (eq-eqb _ _ f, met_at))
 
   pub close_outer : ¬ (num r 1 ≡ g) → closed_at g u (length u) (num r 0) ≡ closed_at g t (length t) c
@@ -132,7 +133,7 @@ module _ (g : ℕ) (t u : Table) (r : Row) (c : ℕ) (h : ¬ (c ≡ 0)) (e : t �
 
 module _ (t : Table) (f r e : ℕ) (x : Row) (s : 0 < f) (h : e ≡ last_with 0 r 0 0 t) (z : row_of t e ≡ x) where
   abbrev walked : ℕ → ℕ → Bool → Bool → ℕ → Walked
-  walked a g p q n = elim p [ false ↦ record { met = 0; at = 0 } | true ↦ elim q [ true ↦ record { met = 1; at = a } | false ↦ walk_over g t n ] ]
+  walked a g p q n = elim p [ false ↦ NoIf | true ↦ elim q [ true ↦ Met a | false ↦ walk_over g t n ] ]
 
   abbrev whole : ℕ → Row → ℕ → Walked
   whole a y g = walked a g (eqb (num y 1) 1) (eqb (num y 4) 0) (num y 4)
@@ -145,16 +146,16 @@ module _ (t : Table) (f r e : ℕ) (x : Row) (s : 0 < f) (h : e ≡ last_with 0 
       go zero s y = absurd (omega arith)
       go (suc g) s y = let w : g ≡ f - 1 = omega arith in ap (λ (a : ℕ). whole a (row_of t a) g) (sym h) ∙ ap (λ (y : Row). whole e y g) z ∙ ap (whole e x) w
 
-  pub walk_other : ¬ (num x 1 ≡ 1) → record { met = 0; at = 0 } ≡ walk_over f t r
+  pub walk_other : ¬ (num x 1 ≡ 1) → NoIf ≡ walk_over f t r
   walk_other k = sym (walk_step ∙ ap (λ (p : Bool). walked e (f - 1) p (eqb (num x 4) 0) (num x 4)) (ne_eqb _ _ k))
 
-  pub walk_met : num x 1 ≡ 1 → num x 4 ≡ 0 → record { met = 1; at = e } ≡ walk_over f t r
+  pub walk_met : num x 1 ≡ 1 → num x 4 ≡ 0 → Met e ≡ walk_over f t r
   walk_met k o = sym (walk_step ∙ ap₂ (λ (p q : Bool). walked e (f - 1) p q (num x 4)) (eq-eqb _ _ k) (eq-eqb _ _ o))
 
   pub walk_on : num x 1 ≡ 1 → ¬ (num x 4 ≡ 0) → walk_over (f - 1) t (num x 4) ≡ walk_over f t r
   walk_on k o = sym (walk_step ∙ ap₂ (λ (p q : Bool). walked e (f - 1) p q (num x 4)) (eq-eqb _ _ k) (ne_eqb _ _ o))
 
-pub walk_out : (t : Table) (f r : ℕ) → f ≡ 0 → record { met = 0; at = 0 } ≡ walk_over f t r
+pub walk_out : (t : Table) (f r : ℕ) → f ≡ 0 → NoIf ≡ walk_over f t r
 unfolding walk_over
 walk_out t zero r e = refl
 walk_out t (suc f) r e = absurd (omega arith)

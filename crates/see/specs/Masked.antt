@@ -1,10 +1,11 @@
--- What an event's plan reads: the costly reads are made only for the elements and kinds that need them, and are 0 for the others.
-use Rattle.std.specs.Prelude.{ℕ, zero, suc, Bool, true, false, not, ◌||◌, ◌&&◌, eqb}
+-- What an event's plan reads: the costly reads are made only for the elements and kinds that need them, and are 0, none or no walk for the others.
+use Rattle.std.specs.Prelude.{ℕ, zero, suc, Bool, true, false, Option, None, not, ◌||◌, ◌&&◌, eqb}
 use Rattle.definition.specs.Elements.{tag}
 use Rattle.plan.specs.declared.Walked.{Walked}
+use Rattle.plan.specs.declared.Walked.TheVariants as W
 use Rattle.plan.specs.declared.Seen.{Seen}
 use Rattle.plan.specs.declared.Closing.{Closing}
-use Rattle.plan.specs.Ids.{state_id, region_id}
+use Rattle.plan.specs.Ids.{state_id}
 
 -- Of the kinds open, empty, whole and end, as the plan goes by them: all but the last begin an element, and two of these end it as well.
 unfoldable pub is_start : ℕ → Bool
@@ -56,11 +57,11 @@ bool_if false b = false
 
 unfoldable pub walked_if : Bool → Walked → Walked
 walked_if true w = w
-walked_if false w = record { met = 0; at = 0 }
+walked_if false w = W.NoIf
 
-unfoldable pub closing_if : Bool → Closing → Closing
+unfoldable pub closing_if : Bool → Option Closing → Option Closing
 closing_if true x = x
-closing_if false x = record { met = 0; current = region_id 0; kept = 0 }
+closing_if false x = None
 
 unfoldable pub masked : ℕ → ℕ → Seen → Seen
 unfolding is_start is_both is_else is_part is_invoked is_childish number_if bool_if walked_if does_close closing_if

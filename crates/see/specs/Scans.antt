@@ -4,16 +4,17 @@ use Rattle.definition.specs.Elements.{among}
 use Rattle.definition.specs.Rows.{Table, list, entry, entry_kind, num, row_of, listed, values_of}
 use Rattle.definition.specs.Actions.{last_with}
 use Rattle.plan.specs.declared.Walked.{Walked}
+use Rattle.plan.specs.declared.Walked.TheVariants as W
 
 -- The else walk over the entries.
 unfoldable pub walk_over : ℕ → Table → ℕ → Walked
 unfolding last_with row_of
-walk_over zero t r = record { met = 0; at = 0 }
+walk_over zero t r = W.NoIf
 walk_over (suc fuel) t r =
     let e : ℕ = last_with entry.region r 0 0 t in
     elim (eqb (num (row_of t e) entry.kind) entry_kind.if) [
-      | false ↦ record { met = 0; at = 0 }
-      | true ↦ elim (eqb (num (row_of t e) entry.else) 0) [ true ↦ record { met = 1; at = e } | false ↦ walk_over fuel t (num (row_of t e) entry.else) ]
+      | false ↦ W.NoIf
+      | true ↦ elim (eqb (num (row_of t e) entry.else) 0) [ true ↦ W.Met e | false ↦ walk_over fuel t (num (row_of t e) entry.else) ]
     ]
 
 unfoldable pub is_child_in : ℕ → ℕ → Table → Bool

@@ -1,5 +1,5 @@
 -- Parts of what is seen, of tables alone.
-use Rattle.std.specs.Prelude.{ℕ, zero, suc, ◌<◌, ◌^◌, Bool, true, false, not, ◌||◌, ◌&&◌, [], length, get_or, eqb}
+use Rattle.std.specs.Prelude.{ℕ, zero, suc, ◌<◌, ◌^◌, Bool, true, false, Option, Some, None, not, ◌||◌, ◌&&◌, [], length, get_or, eqb}
 use Rattle.definition.specs.declared.Position.{Position}
 use Rattle.definition.specs.Elements.{tag}
 use Rattle.definition.specs.Rows.{Table, chart, state, entry, invoke, opened, num, row_of, last_of}
@@ -12,21 +12,18 @@ use Rattle.see.specs.declared.Family.{Family}
 use Rattle.see.specs.Masked.{is_start, is_both, is_else, is_part, is_invoked, is_childish, number_if, bool_if, walked_if, does_close, closing_if}
 use Rattle.plan.specs.declared.Closing.{Closing}
 use Rattle.plan.specs.declared.Walked.{Walked}
+use Rattle.plan.specs.declared.Walked.TheVariants as W
 use Rattle.see.specs.Scans.{walk_over, is_child_in}
 
 unfoldable pub walk_at : ℕ → Table → ℕ → Walked
 unfolding walk_over
-walk_at steps t zero = record { met = 1; at = 0 }
+walk_at steps t zero = W.Nowhere
 walk_at steps t (suc r) = walk_over steps t (suc r)
 
-unfoldable pub walk_by : ℕ → ℕ → ℕ → Table → Walked
+unfoldable pub walk_after : Option Closing → ℕ → Table → Walked
 unfolding walk_at
-walk_by zero c steps t = record { met = 0; at = 0 }
-walk_by (suc m) c steps t = walk_at steps t c
-
-unfoldable pub walk_after : Closing → ℕ → Table → Walked
-unfolding walk_by
-walk_after x steps t = walk_by x.met x.current.0 steps t
+walk_after None steps t = W.NoIf
+walk_after (Some x) steps t = walk_at steps t x.current.0
 
 -- `<state id="a"><state id="a"/>`
 unfoldable pub new_first : Bool → ℕ → ℕ → ℕ
@@ -65,7 +62,7 @@ seen_by k g o p c s t e i m w r =
     let now : ℕ = num (last_of [] w) opened.state in
     let transition : ℕ = num (last_of [] w) opened.transition in
     let root : ℕ = num (get_or c 0 []) chart.root in
-    let x : Closing = closing_if (does_close k g) (closed_at (closes g) r (length r) p.current.0) in
+    let x : Option Closing = closing_if (does_close k g) (closed_at (closes g) r (length r) p.current.0) in
     let last : ℕ = number_if (is_part g) (last_with entry.region p.current.0 0 0 e) in
     let f : Family = family_of k g m now root o in
     record {

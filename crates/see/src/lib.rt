@@ -2,42 +2,26 @@
 
 #![tactic(auto)]
 
-ghost use Rattle.std.specs.Prelude.{◌≡◌, [], ◌&&◌, ◌||◌, not, ◌<◌, ◌≤◌, ◌^◌, length, get_or, eqb, nat_eq, position, ◌==◌};
+ghost use Rattle.std.specs.Prelude.{◌≡◌, ◌&&◌, ◌||◌, not, ◌<◌, ◌≤◌, ◌^◌, length, get_or, eqb, nat_eq, position, ◌==◌};
 ghost use Rattle.std.specs.List.{list_any};
+ghost use Rattle.definition.specs.Codes.{kind_number, tag_number};
 ghost use Rattle.definition.specs.Rows.{num, row_of};
 ghost use Rattle.definition.specs.Actions.{last_with, place_of_number};
 ghost use Rattle.plan.specs.Ids.{state_id, transition_id};
 ghost use Rattle.plan.specs.Seen.{closes, closed_at, first_child_or};
 ghost use Rattle.see.specs.Scans.{walk_over, is_child_in, IsLast, IsNext};
-ghost use Rattle.see.specs.Masked.{is_start, is_both, is_childish, number_if, bool_if, walked_if, closing_if, does_close, is_else, is_part, is_invoked};
+ghost use Rattle.see.specs.Masked.{is_start, is_both, is_childish, number_if, walked_if, closing_if, does_close, is_else, is_part, is_invoked};
 ghost use Rattle.see.specs.View.{walk_after, default_for, family_of, inside_of, seen_by, Short};
 
 use definition::cells::{
-    ChartColumn, EntryColumn, InvokeColumn, MemberColumn, OpenColumn, OpenRegionColumn, StateColumn,
+    EntryColumn, InvokeColumn, MemberColumn, OpenColumn, OpenRegionColumn, StateColumn,
 };
 use definition::codes::{EntryKind, Kind, ListKind, Tag};
 use definition::{Position, RegionId, StateId, TransitionId};
 use opens::Open;
-use plan::{Closing, Seen, Walked};
-use rows::{row_of, state_cell, transition_place};
-
-const NOT_CLOSED: Closing = Closing {
-    met: 0,
-    current: RegionId(0),
-    kept: 0,
-};
-
-const NOT_MET: Walked = Walked { met: 0, at: 0 };
-
-/// The chart's root; 0 where there is no row.
-fn root_of(chart: &[[u32; 24]]) -> StateId
-    ensures { result ≡ state_id (num (get_or chart.now 0 []) 0) }
-{
-    match chart.first() {
-        Some(row) => StateId(row[ChartColumn::ROOT]),
-        None => StateId(0),
-    }
-}
+use plan::{Closing, Element, Seen, Walked};
+use rows::lent::Tables;
+use rows::{root_of, row_of, state_cell, transition_place};
 
 /// The record of the innermost open element.
 #[tactic(auto, using(crate::proofs::Cells::inside_none, crate::proofs::Cells::inside_some))]
@@ -66,71 +50,70 @@ fn entry_kind(entries: &[[u32; 48]], e: u32) -> u32
 }
 
 #[tactic(auto, unfolding(crate::specs::Masked::is_else))]
-fn is_else(tag: u32) -> bool
-    ensures { result ≡ is_else tag }
+fn is_else(tag: Tag) -> bool
+    ensures { result ≡ is_else (tag_number tag) }
 {
-    matches!(tag, Tag::ELSE | Tag::ELSEIF)
+    matches!(tag, Tag::Else | Tag::Elseif)
 }
 
 /// else and elseif close their if; an element that ends closes its own region.
 #[tactic(auto, unfolding(plan::specs::Seen::closes, crate::specs::Masked::is_else))]
-fn closes(tag: u32) -> u32
-    ensures { result ≡ closes tag }
+fn closes(tag: Tag) -> Tag
+    ensures { tag_number result ≡ closes (tag_number tag) }
 {
-    if is_else(tag) { Tag::IF } else { tag }
+    if is_else(tag) { Tag::If } else { tag }
 }
 
 /// What the element closes, of these open regions. It calls itself for the region around.
-fn close_region(tag: u32, open_regions: &[[u32; 8]], current: RegionId) -> Closing
+#[tactic(auto, using(crate::proofs::Scans::close_none, crate::proofs::Scans::close_all, crate::proofs::Scans::close_here, crate::proofs::Scans::close_outer))]
+fn close_region(tag: Tag, open_regions: &[[u32; 8]], current: RegionId) -> Option<Closing>
     requires { length open_regions.now < 2 ^ 32 }
-    ensures { result ≡ closed_at tag open_regions.now (length open_regions.now) current.0 }
+    ensures { result ≡ closed_at (tag_number tag) open_regions.now (length open_regions.now) current.0 }
 {
     if current.0 == 0 {
-        return NOT_CLOSED;
+        return None;
     }
     let Some((row, around)) = open_regions.split_last() else {
-        return Closing {
-            met: 1,
+        return Some(Closing {
             current: RegionId(0),
             kept: 0,
-        };
+        });
     };
     let outer = RegionId(row[OpenRegionColumn::REGION]);
-    if row[OpenRegionColumn::TAG] == tag {
-        return Closing {
-            met: 1,
+    if row[OpenRegionColumn::TAG] == tag.number() {
+        return Some(Closing {
             current: outer,
             kept: around.len() as u32,
-        };
+        });
     }
     close_region(tag, around, outer)
 }
 
 /// Whether an event closes a region.
 #[tactic(auto, unfolding(crate::specs::Masked::does_close, crate::specs::Masked::is_open, crate::specs::Masked::is_else, crate::specs::Masked::closes_own))]
-fn does_close(kind: u32, tag: u32) -> bool
-    ensures { result ≡ does_close kind tag }
+fn does_close(kind: Kind, tag: Tag) -> bool
+    ensures { result ≡ does_close (kind_number kind) (tag_number tag) }
 {
-    // For the speed no `matches!`, as in `decide: ends`.
-    let own = tag == Tag::FINALIZE
-        || tag == Tag::TRANSITION
-        || tag == Tag::ONENTRY
-        || tag == Tag::ONEXIT
-        || tag == Tag::IF
-        || tag == Tag::FOREACH;
-    is_else(tag) || (kind != Kind::OPEN && own)
+    // For the speed no `matches!`: the compiler makes one test of bits of a chain, and a tree of comparisons of that.
+    let own = tag == Tag::Finalize
+        || tag == Tag::Transition
+        || tag == Tag::Onentry
+        || tag == Tag::Onexit
+        || tag == Tag::If
+        || tag == Tag::Foreach;
+    is_else(tag) || (kind != Kind::Open && own)
 }
 
 /// For else and elseif, and where an element with a region of its own ends: what it closes.
 #[tactic(auto, unfolding(crate::specs::Masked::closing_if))]
-fn closing_for(kind: u32, tag: u32, open_regions: &[[u32; 8]], current: RegionId) -> Closing
+fn closing_for(element: Element, open_regions: &[[u32; 8]], current: RegionId) -> Option<Closing>
     requires { length open_regions.now < 2 ^ 32 }
-    ensures { result ≡ closing_if (does_close kind tag) (closed_at (closes tag) open_regions.now (length open_regions.now) current.0) }
+    ensures { result ≡ closing_if (does_close (kind_number element.kind) (tag_number element.tag)) (closed_at (closes (tag_number element.tag)) open_regions.now (length open_regions.now) current.0) }
 {
-    if does_close(kind, tag) {
-        return close_region(closes(tag), open_regions, current);
+    if does_close(element.kind, element.tag) {
+        return close_region(closes(element.tag), open_regions, current);
     }
-    NOT_CLOSED
+    None
 }
 
 // The last row with v in a column. From the end: it is near.
@@ -167,6 +150,7 @@ fn last_entry(entries: &[[u32; 48]], region: RegionId) -> u32
 }
 
 /// The else walk: from a region's last entry through else numbers to the first if without one, in at most so many steps.
+#[tactic(auto, using(crate::proofs::Scans::walk_other, crate::proofs::Scans::walk_met, crate::proofs::Scans::walk_on, crate::proofs::Scans::walk_out, rows::proofs::Laws::row_some, rows::proofs::Laws::row_none))]
 fn else_walk(entries: &[[u32; 48]], steps: u32, region: RegionId) -> Walked
     requires { length entries.now < 2 ^ 32 }
     ensures { result ≡ walk_over steps entries.now region.0 }
@@ -175,23 +159,24 @@ fn else_walk(entries: &[[u32; 48]], steps: u32, region: RegionId) -> Walked
     for _step in 0..steps {
         let e = last_entry(entries, at);
         let Some(row) = row_of(entries, e) else {
-            return NOT_MET;
+            return Walked::NoIf;
         };
-        if row[EntryColumn::KIND] != EntryKind::IF {
-            return NOT_MET;
+        if row[EntryColumn::KIND] != EntryKind::If.number() {
+            return Walked::NoIf;
         }
         if row[EntryColumn::ELSE] == 0 {
-            return Walked { met: 1, at: e };
+            return Walked::Met(e);
         }
         at = RegionId(row[EntryColumn::ELSE]);
     }
-    NOT_MET
+    Walked::NoIf
 }
 
 // How many rows are looked at before the next test for the end: the compiler writes them out. Tried without blocks, as one chain over all rows: 1.7 times the time.
 const BLOCK: usize = 8;
 
 /// The first row from `from` on that has v in a column.
+#[tactic(auto, using(crate::proofs::Nexts::found_some, crate::proofs::Nexts::found_none, crate::proofs::Nexts::block_past))]
 fn next_with(members: &[[u32; 8]], c: usize, v: u32, from: usize) -> Option<usize>
     requires { (c < 8) × (from ≤ length members.now) }
     ensures { IsNext c v from members.now result }
@@ -205,6 +190,7 @@ fn next_with(members: &[[u32; 8]], c: usize, v: u32, from: usize) -> Option<usiz
     Some(i + j)
 }
 
+// The same walk twice, for a yes and for a place: `any` over a block has no early end, which is what makes it fast.
 fn has(members: &[[u32; 8]], c: usize, v: u32) -> bool
     requires { c < 8 }
     ensures { result ≡ list_any (λ row. num row c == v) members.now }
@@ -225,7 +211,7 @@ fn first_child(members: &[[u32; 8]], d: u32, s: StateId) -> u32
 {
     let mut from = 0;
     while let Some(i) = next_with(members, MemberColumn::OWNER, s.0, from) {
-        if members[i][MemberColumn::LIST] == ListKind::CHILDREN {
+        if members[i][MemberColumn::LIST] == ListKind::Children.number() {
             return members[i][MemberColumn::VALUE];
         }
         from = i + 1;
@@ -239,7 +225,7 @@ fn is_child(members: &[[u32; 8]], p: StateId, s: StateId) -> bool
 {
     let mut from = 0;
     while let Some(i) = next_with(members, MemberColumn::VALUE, s.0, from) {
-        if members[i][MemberColumn::LIST] == ListKind::CHILDREN
+        if members[i][MemberColumn::LIST] == ListKind::Children.number()
             && members[i][MemberColumn::OWNER] == p.0
         {
             return true;
@@ -250,40 +236,43 @@ fn is_child(members: &[[u32; 8]], p: StateId, s: StateId) -> bool
 }
 
 /// For else and elseif: the walk from the region that is current after the if's is closed.
-#[tactic(auto, unfolding(crate::specs::Masked::walked_if, crate::specs::Masked::is_else, crate::specs::View::walk_after, crate::specs::View::walk_by, crate::specs::View::walk_at))]
-fn walk_for(tag: u32, entries: &[[u32; 48]], steps: u32, x: Closing) -> Walked
+#[tactic(auto, unfolding(crate::specs::Masked::walked_if, crate::specs::Masked::is_else, crate::specs::View::walk_after, crate::specs::View::walk_at))]
+fn walk_for(tag: Tag, entries: &[[u32; 48]], steps: u32, closed: Option<Closing>) -> Walked
     requires { length entries.now < 2 ^ 32 }
-    ensures { result ≡ walked_if (is_else tag) (walk_after x steps entries.now) }
+    ensures { result ≡ walked_if (is_else (tag_number tag)) (walk_after closed steps entries.now) }
 {
-    if !is_else(tag) || x.met == 0 {
-        return NOT_MET;
+    if !is_else(tag) {
+        return Walked::NoIf;
     }
+    let Some(x) = closed else {
+        return Walked::NoIf;
+    };
     if x.current.0 == 0 {
-        return Walked { met: 1, at: 0 };
+        return Walked::Nowhere;
     }
     else_walk(entries, steps, x.current)
 }
 
 /// For param and content: the send's entry.
 #[tactic(auto, unfolding(crate::specs::Masked::number_if, crate::specs::Masked::is_part))]
-fn entry_for(tag: u32, entries: &[[u32; 48]], region: RegionId) -> u32
+fn entry_for(tag: Tag, entries: &[[u32; 48]], region: RegionId) -> u32
     requires { length entries.now < 2 ^ 32 }
-    ensures { result ≡ number_if (is_part tag) (last_with 0 region.0 0 0 entries.now) }
+    ensures { result ≡ number_if (is_part (tag_number tag)) (last_with 0 region.0 0 0 entries.now) }
 {
     match tag {
-        Tag::PARAM | Tag::CONTENT => last_entry(entries, region),
+        Tag::Param | Tag::Content => last_entry(entries, region),
         _ => 0,
     }
 }
 
 /// For finalize, param and content: the invoke, the last of the state.
 #[tactic(auto, unfolding(crate::specs::Masked::number_if, crate::specs::Masked::is_invoked))]
-fn invoke_for(tag: u32, invokes: &[[u32; 24]], state: StateId) -> u32
+fn invoke_for(tag: Tag, invokes: &[[u32; 24]], state: StateId) -> u32
     requires { length invokes.now < 2 ^ 32 }
-    ensures { result ≡ number_if (is_invoked tag) (last_with 0 state.0 0 0 invokes.now) }
+    ensures { result ≡ number_if (is_invoked (tag_number tag)) (last_with 0 state.0 0 0 invokes.now) }
 {
     match tag {
-        Tag::FINALIZE | Tag::PARAM | Tag::CONTENT => {
+        Tag::Finalize | Tag::Param | Tag::Content => {
             last_number(invokes, InvokeColumn::STATE, state.0)
         }
         _ => 0,
@@ -292,35 +281,36 @@ fn invoke_for(tag: u32, invokes: &[[u32; 24]], state: StateId) -> u32
 
 /// Whether an event ends this element.
 #[tactic(auto, unfolding(crate::specs::Masked::is_start))]
-fn does_end(kind: u32, tag: u32, element: u32) -> bool
-    ensures { result ≡ (not (is_start kind) && eqb tag element) }
+fn does_end(element: Element, tag: Tag) -> bool
+    ensures { result ≡ (not (is_start (kind_number element.kind)) && eqb (tag_number element.tag) (tag_number tag)) }
 {
-    kind >= Kind::END && tag == element
+    element.kind == Kind::End && element.tag == tag
 }
 
 /// Whether an event begins and ends the chart or a state.
 #[tactic(auto, unfolding(crate::specs::Masked::is_both))]
-fn is_whole(kind: u32, tag: u32) -> bool
-    ensures { result ≡ (is_both kind && (eqb tag 1 || eqb tag 2)) }
+fn is_whole(element: Element) -> bool
+    ensures { result ≡ (is_both (kind_number element.kind) && (eqb (tag_number element.tag) 1 || eqb (tag_number element.tag) 2)) }
 {
-    matches!(kind, Kind::EMPTY | Kind::WHOLE) && matches!(tag, Tag::SCXML | Tag::STATE)
+    matches!(element.kind, Kind::Empty | Kind::Whole)
+        && matches!(element.tag, Tag::Scxml | Tag::State)
 }
 
 /// Whether an event begins a child of a state.
 #[tactic(auto, unfolding(crate::specs::Masked::is_start, crate::specs::Masked::is_childish))]
-fn begins_child(kind: u32, tag: u32) -> bool
-    ensures { result ≡ (is_start kind && is_childish tag) }
+fn begins_child(element: Element) -> bool
+    ensures { result ≡ (is_start (kind_number element.kind) && is_childish (tag_number element.tag)) }
 {
-    kind < Kind::END && matches!(tag, Tag::STATE | Tag::PARALLEL | Tag::FINAL)
+    element.kind != Kind::End && matches!(element.tag, Tag::State | Tag::Parallel | Tag::Final)
 }
 
 /// For a transition that ends: its place.
 #[tactic(auto, using(definition::proofs::Changes::place_le), unfolding(crate::specs::Masked::number_if, crate::specs::Masked::is_start))]
-fn place_for(kind: u32, tag: u32, transitions: &[[u32; 8]], t: TransitionId) -> u32
+fn place_for(element: Element, transitions: &[[u32; 8]], t: TransitionId) -> u32
     requires { length transitions.now < 2 ^ 32 }
-    ensures { result ≡ number_if (not (is_start kind) && eqb tag 16) (place_of_number transitions.now t.0) }
+    ensures { result ≡ number_if (not (is_start (kind_number element.kind)) && eqb (tag_number element.tag) 16) (place_of_number transitions.now t.0) }
 {
-    if does_end(kind, tag, Tag::TRANSITION) {
+    if does_end(element, Tag::Transition) {
         return transition_place(transitions, t) as u32;
     }
     0
@@ -336,10 +326,10 @@ fn first_if(asked: bool, members: &[[u32; 8]], d: u32, s: StateId) -> StateId
 
 /// A state that begins in itself is its own first child, unless it is a child already.
 #[tactic(auto, unfolding(crate::specs::View::default_for, crate::specs::View::new_first))]
-fn default_for(tag: u32, joined: bool, p: StateId, s: StateId) -> u32
-    ensures { result ≡ default_for tag joined p.0 s.0 }
+fn default_for(tag: Tag, joined: bool, p: StateId, s: StateId) -> u32
+    ensures { result ≡ default_for (tag_number tag) joined p.0 s.0 }
 {
-    if tag == Tag::STATE && !joined && p.0 == s.0 {
+    if tag == Tag::State && !joined && p.0 == s.0 {
         return p.0;
     }
     0
@@ -356,22 +346,21 @@ pub struct Family {
 
 #[tactic(auto, unfolding(crate::specs::View::family_of, crate::specs::Masked::is_start, crate::specs::Masked::is_both, crate::specs::Masked::is_childish, crate::specs::Masked::bool_if))]
 fn kin_of(
-    kind: u32,
-    tag: u32,
+    element: Element,
     members: &[[u32; 8]],
     state: StateId,
     root: StateId,
     own: StateId,
 ) -> Family
-    ensures { result ≡ family_of kind tag members.now state.0 root.0 own.0 }
+    ensures { result ≡ family_of (kind_number element.kind) (tag_number element.tag) members.now state.0 root.0 own.0 }
 {
-    let joined = begins_child(kind, tag) && is_child(members, state, own);
-    let d = default_for(tag, joined, state, own);
+    let joined = begins_child(element) && is_child(members, state, own);
+    let d = default_for(element.tag, joined, state, own);
     Family {
-        first: first_if(does_end(kind, tag, Tag::STATE), members, 0, state),
-        child: first_if(does_end(kind, tag, Tag::SCXML), members, 0, root),
+        first: first_if(does_end(element, Tag::State), members, 0, state),
+        child: first_if(does_end(element, Tag::Scxml), members, 0, root),
         joined,
-        eldest: first_if(is_whole(kind, tag), members, d, own),
+        eldest: first_if(is_whole(element), members, d, own),
     }
 }
 
@@ -382,33 +371,21 @@ fn initial_of(states: &[[u32; 24]], s: StateId) -> TransitionId
     TransitionId(state_cell(states, s, StateColumn::INITIAL))
 }
 
-/// All that is seen for an event of a kind, and an element that names the state own.
-pub fn see(
-    kind: u32,
-    tag: u32,
-    own: StateId,
-    position: Position,
-    chart: &[[u32; 24]],
-    states: &[[u32; 24]],
-    transitions: &[[u32; 8]],
-    entries: &[[u32; 48]],
-    invokes: &[[u32; 24]],
-    members: &[[u32; 8]],
-    opened: &[[u32; 8]],
-    open_regions: &[[u32; 8]],
-) -> Seen
-    requires { Short transitions.now entries.now invokes.now open_regions.now }
-    ensures { result ≡ seen_by kind tag own.0 position chart.now states.now transitions.now entries.now invokes.now members.now opened.now open_regions.now }
+/// All that is seen for an event, and an element that names the state own. The tables are the rows in use.
+#[tactic(auto, unfolding(crate::specs::View::seen_by, crate::specs::View::inside_of))]
+pub fn see(element: Element, own: StateId, position: Position, used: Tables<'_>) -> Seen
+    requires { Short used.transitions.now used.entries.now used.invokes.now used.open_regions.now }
+    ensures { result ≡ seen_by (kind_number element.kind) (tag_number element.tag) own.0 position used.entry.chart.now used.entry.states.now used.entry.transitions.now used.entry.entries.now used.entry.invokes.now used.entry.members.now used.entry.opened.now used.entry.open_regions.now }
 {
-    let element = inside(opened);
-    let root = root_of(chart);
-    let closed = closing_for(kind, tag, open_regions, position.current);
-    let entry = entry_for(tag, entries, position.current);
-    let kin = kin_of(kind, tag, members, element.state, root, own);
+    let around = inside(used.opened);
+    let root = StateId(root_of(used.chart));
+    let closed = closing_for(element, used.open_regions, position.current);
+    let entry = entry_for(element.tag, used.entries, position.current);
+    let kin = kin_of(element, used.members, around.state, root, own);
     Seen {
-        state: element.state,
-        transition: element.transition,
-        parent: element.tag,
+        state: around.state,
+        transition: around.transition,
+        parent: around.tag,
         current: position.current,
         ids: position.ids,
         docs: position.docs,
@@ -418,19 +395,19 @@ pub fn see(
         datums: position.datums,
         parameters: position.parameters,
         closed,
-        walk: walk_for(tag, entries, position.regions, closed),
+        walk: walk_for(element.tag, used.entries, position.regions, closed),
         entry,
-        kind: entry_kind(entries, entry),
-        invoke: invoke_for(tag, invokes, element.state),
-        place: place_for(kind, tag, transitions, element.transition),
-        initial: initial_of(states, element.state),
-        donedata: state_cell(states, element.state, StateColumn::DONEDATA),
+        kind: entry_kind(used.entries, entry),
+        invoke: invoke_for(element.tag, used.invokes, around.state),
+        place: place_for(element, used.transitions, around.transition),
+        initial: initial_of(used.states, around.state),
+        donedata: state_cell(used.states, around.state, StateColumn::DONEDATA),
         first: kin.first,
         root,
-        begins: initial_of(states, root),
+        begins: initial_of(used.states, root),
         child: kin.child,
         joined: kin.joined,
-        own: initial_of(states, own),
+        own: initial_of(used.states, own),
         eldest: kin.eldest,
     }
 }

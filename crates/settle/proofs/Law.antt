@@ -24,17 +24,16 @@ use Rattle.kept.proofs.Facts.{rules_from}
 use Rattle.definition.proofs.Places.{Fits}
 use Rattle.definition.proofs.Lending.{chart_there}
 use Rattle.names.specs.Names.{Inside}
-use Rattle.plain.specs.Plain.{Parsed}
+use Rattle.plain.specs.Plain.{Parsed, parsed_of}
 use Rattle.found.specs.Found.{ids}
-use Rattle.look.specs.declared.Looked.{Looked}
-use Rattle.look.specs.Looked.{looked_in, looked_of, Tells}
+use Rattle.look.specs.Looked.{Told, looked_in, looked_of, Tells}
 use Rattle.look.proofs.LookLaw.{looks_right, looked_at}
 use Rattle.plan.specs.declared.Heard.{Heard}
 use Rattle.plan.specs.declared.Seen.{Seen}
 use Rattle.plan.specs.declared.Plan.{Plan}
 use Rattle.plan.specs.Heard.{heard}
 use Rattle.plan.specs.Small.{Small, Counted, Brought}
-use Rattle.plan.specs.Plan.{Planned, planned}
+use Rattle.plan.specs.Plan.{Planned, planned, idle, inside, keeping, counting}
 use Rattle.plan.specs.Plans.{plan_by, plan_of}
 use Rattle.plan.specs.After.{applied, move_of}
 use Rattle.plan.specs.Decided.{stays_within, limited_p, decided_p}
@@ -51,7 +50,7 @@ use Rattle.decide.specs.Within.{within}
 use Rattle.decide.proofs.Counted.{counted}
 use Rattle.whole.specs.Accepted.{Ready, afterwards}
 use Rattle.whole.proofs.Sizes.{Sized, sized}
-use Rattle.settle.specs.Settled.{InForm, first_of, replied, Settles}
+use Rattle.settle.specs.Settled.{InForm, first_of, Takes, Refuses}
 
 ids_all : (t : List ℕ) (rs : Table) → All (λ (r : Row). Fits (length t) (cell_at r 1).at (cell_at r 1).len) rs → All (Inside t) (ids rs)
 unfolding ids
@@ -96,6 +95,10 @@ module _ (s : Store) (e : Event) (q : Plan) where
       → ((x : Plan) → w x ≡ stays_within limits01 (look s e) x s.numbers) → settled s (text_after s e) (decided limits01 s.numbers (look s e)) ≡ answer (first_of t g w)
   unfolding decided_p
   replies t g w z d f r h = ap (settled s (text_after s e)) (d ∙ (λ z. verdict (f z) (sym r z))) ∙ parts_reply t g w z h
+
+refusal_answer : (s : Store) (e : Event) (q : Plan) (k : ℕ) → 0 < k → answer s e q k ≡ record { number = k; store = s }
+refusal_answer s e q zero h = absurd (omega arith)
+refusal_answer s e q (suc k) h = refl
 
 formed : (s : Store) (X : Reply) (b c : Bool) → b ≡ true → c ≡ true → ◌≡◌ {A = Reply} (elim b [ false ↦ record { number = 3; store = s } | true ↦ elim c [ false ↦ record { number = 4; store = s } | true ↦ X ] ]) X
 formed s X true true f d = refl
@@ -220,11 +223,11 @@ module _ (xs : Tables) (p : Position) (v : Parsed) where
     short c' f' h' r' ec ef eh er =
         (omega (arith, ap length ec, F.transitions), omega (arith, ap length ef, F.entries), omega (arith, ap length eh, F.invokes), omega (arith, ap length er, F.open_regions_lem))
 
-    module _ (m : Looked) (em : m ≡ looked_in (take 1 a) (take p.states b) (take p.datums i) (take p.opened o) (take p.opened y) (take p.used tx) p v) where
+    module _ (m : Told) (em : m ≡ looked_in (take 1 a) (take p.states b) (take p.datums i) (take p.opened o) (take p.opened y) (take p.used tx) p v) where
       tells : Tells s l m
       unfolding looked_of store_of taken counts position_of
       tells =
-          subst (λ (z : Looked). Tells s l z)
+          subst (λ (z : Told). Tells s l z)
           (sym (em ∙ looked_at (take 1 a) (take p.states b) (take p.datums i) (take p.opened o) (take p.opened y) (take p.used tx) p (position_of s) v refl (sym (ap (λ (z : Position). z.opened) at_position))))
           (subst (λ (z : Parsed). Tells s l (looked_of s z)) (sym A.parsed)
           (looks_right s A.event A.form A.differ (names_inside limits01 s Z.rules) (ids_all s.text (table_of n 6) (ids_inside limits01 s Z.rules))))
@@ -235,19 +238,27 @@ module _ (xs : Tables) (p : Position) (v : Parsed) where
       pub charge_small : m.charge < 65536
       charge_small = omega (arith, tells.charge, look_charge s A.event Z.rules A.form)
 
-      module _ (u : Seen) (eu : u ≡ seen_by m.heard.kind m.heard.tag m.heard.own.0 p (take 1 a) (take p.states b) (take p.transitions c) (take p.entries f) (take p.invokes h) (take p.members k) (take p.opened o) (take p.open_regions r)) where
+      kinds : v.kind ≡ l.kind
+      unfolding parsed_of look
+      kinds = ap (λ (z : Parsed). z.kind) A.parsed
+
+      tags : v.tag ≡ l.tag
+      unfolding parsed_of look
+      tags = ap (λ (z : Parsed). z.tag) A.parsed
+
+      module _ (u : Seen) (eu : u ≡ seen_by v.kind v.tag m.heard.own.0 p (take 1 a) (take p.states b) (take p.transitions c) (take p.entries f) (take p.invokes h) (take p.members k) (take p.opened o) (take p.open_regions r)) where
         sees : u ≡ seen_in s l
         unfolding store_of taken counts heard
-        sees = eu ∙ (λ z. seen_by (tells.heard z).kind (tells.heard z).tag (tells.heard z).own.0 (sym at_position z) (take 1 a) (take p.states b) (take p.transitions c) (take p.entries f) (take p.invokes h) (take p.members k) (take p.opened o) (take p.open_regions r))
+        sees = eu ∙ (λ z. seen_by (kinds z) (tags z) (tells.heard z).own.0 (sym at_position z) (take 1 a) (take p.states b) (take p.transitions c) (take p.entries f) (take p.invokes h) (take p.members k) (take p.opened o) (take p.open_regions r))
 
         -- WHAT `decide` REQUIRES.
         pub small_enough : Small u m.heard
         small_enough = subst (λ (z : Seen). Small z m.heard) (sym sees) (subst (λ (z : Heard). Small (seen_in s l) z) (sym tells.heard) (small_seen s l (small s A.event Z.rules A.form)))
 
-        module _ (g : Result Plan Refusal) (eg : told g ≡ plan_by m.heard.kind u m.heard) where
+        module _ (g : Result Plan Refusal) (eg : told g ≡ plan_by v.kind v.tag u m.heard) where
           plans : told g ≡ plan_of n l
           unfolding heard
-          plans = eg ∙ ((λ z. plan_by (tells.heard z).kind (sees z) (tells.heard z)) ∙ plan_of_seen s l)
+          plans = eg ∙ ((λ z. plan_by (kinds z) (tags z) (sees z) (tells.heard z)) ∙ plan_of_seen s l)
 
           -- WHAT QUESTION 15 REQUIRES.
           pub brings : IfOk g (λ q. Counted p × Brought m.refs m.new m.charge q)
@@ -265,47 +276,58 @@ module _ (xs : Tables) (p : Position) (v : Parsed) where
           abbrev asked : ℕ
           asked = first_of m.no g (λ q. within limits01 p m.refs m.new m.made m.charge q)
 
-          module _ (t : ℕ) (et : t ≡ asked) (q : Plan) (eq : t ≡ 0 → g ≡ Ok q) where
-            pub reply : reply_to limits01 s (some A.event) ≡ replied s A.event (record { number = t; plan = q; made = m.made; charge = m.charge })
-            unfolding replied
-            reply =
-                form_reply s A.event A.form A.differ
-                ∙ (replies s A.event q m.no g (λ x. within limits01 p m.refs m.new m.made m.charge x) (λ z. eq (et ∙ z))
-                (decided_by_plan limits01 s A.event Z.rules (chart_there limits01 x p A.long)) (sym tells.no) plans fifteen
-                ∙ ap (λ (z : ℕ). elim z [ zero ↦ record { number = 0; store = afterwards s A.event q } | suc k ↦ record { number = suc k; store = s } ]) (sym et))
+          reply : (q : Plan) → (asked ≡ 0 → g ≡ Ok q) → reply_to limits01 s (some A.event) ≡ answer s A.event q asked
+          reply q eq =
+              form_reply s A.event A.form A.differ
+              ∙ replies s A.event q m.no g (λ x. within limits01 p m.refs m.new m.made m.charge x) eq
+              (decided_by_plan limits01 s A.event Z.rules (chart_there limits01 x p A.long)) (sym tells.no) plans fifteen
 
-            pub ready : t ≡ 0 → Ready x p v q m.made m.charge
-            unfolding looked_in
-            ready e =
-                let O = first_zero m.no g (λ x. within limits01 p m.refs m.new m.made m.charge x) q (eq e) (sym et ∙ e) in
-                record {
-                  accepted =
-                      record {
-                        event = A.event;
-                        parsed = A.parsed;
-                        form = A.form;
-                        differ = A.differ;
-                        long = A.long;
-                        order = A.order;
-                        first = sym tells.no ∙ O.0;
-                        plan = sym plans ∙ ap told (eq e);
-                        within = sym (fifteen q) ∙ O.1;
-                      };
-                  makes = ap (λ (z : Looked). z.made) em;
-                  takes = ap (λ (z : Looked). z.charge) em;
-                }
+          pub accepts : (q : Plan) → asked ≡ 0 → g ≡ Ok q → reply_to limits01 s (some A.event) ≡ record { number = 0; store = afterwards s A.event q }
+          accepts q z eq = reply q (λ w. eq) ∙ ap (answer s A.event q) z
 
-  pub settles : (m : Looked) (em : m ≡ looked_in (take 1 a) (take p.states b) (take p.datums i) (take p.opened o) (take p.opened y) (take p.used tx) p v)
-      (u : Seen) (eu : u ≡ seen_by m.heard.kind m.heard.tag m.heard.own.0 p (take 1 a) (take p.states b) (take p.transitions c) (take p.entries f) (take p.invokes h) (take p.members k) (take p.opened o) (take p.open_regions r))
-      (g : Result Plan Refusal) (eg : told g ≡ plan_by m.heard.kind u m.heard) (t : ℕ) (q : Plan) → t ≡ first_of m.no g (λ x. within limits01 p m.refs m.new m.made m.charge x) → (t ≡ 0 → g ≡ Ok q)
-      → Settles x p v (record { number = t; plan = q; made = m.made; charge = m.charge })
-  unfolding ready
-  settles m em u eu g eg t q et eq = record { reply = λ B. reply B m em u eu g eg t et q eq; ready = λ B. ready B m em u eu g eg t et q eq; same = λ B e. refl }
+          pub refuses : (k : Refusal) → refusal_number k ≡ asked → reply_to limits01 s (some A.event) ≡ record { number = refusal_number k; store = s }
+          refuses k e =
+              let q : Plan = idle (inside 0 0) (keeping 0) (counting 0 0 0) in
+              reply q (λ w. absurd (omega (arith, e, w, refusal_is k))) ∙ ap (answer s A.event q) (sym e) ∙ refusal_answer s A.event q (refusal_number k) (refusal_is k)
+
+          pub ready : (q : Plan) → asked ≡ 0 → g ≡ Ok q → Ready x p v q m.made m.charge
+          unfolding looked_in
+          ready q z e =
+              let O = first_zero m.no g (λ x. within limits01 p m.refs m.new m.made m.charge x) q e z in
+              record {
+                accepted =
+                    record {
+                      event = A.event;
+                      parsed = A.parsed;
+                      form = A.form;
+                      differ = A.differ;
+                      long = A.long;
+                      order = A.order;
+                      first = sym tells.no ∙ O.0;
+                      plan = sym plans ∙ ap told e;
+                      within = sym (fifteen q) ∙ O.1;
+                    };
+                makes = ap (λ (z : Told). z.made) em;
+                takes = ap (λ (z : Told). z.charge) em;
+              }
+
+  module _ (m : Told) (em : m ≡ looked_in (take 1 a) (take p.states b) (take p.datums i) (take p.opened o) (take p.opened y) (take p.used tx) p v)
+      (u : Seen) (eu : u ≡ seen_by v.kind v.tag m.heard.own.0 p (take 1 a) (take p.states b) (take p.transitions c) (take p.entries f) (take p.invokes h) (take p.members k) (take p.opened o) (take p.open_regions r))
+      (g : Result Plan Refusal) (eg : told g ≡ plan_by v.kind v.tag u m.heard) where
+    abbrev number : ℕ
+    number = first_of m.no g (λ x. within limits01 p m.refs m.new m.made m.charge x)
+
+    pub settles : (q : Plan) → number ≡ 0 → g ≡ Ok q → Takes x p v (record { plan = q; made = m.made; charge = m.charge })
+    unfolding ready
+    settles q z e = record { reply = λ A. accepts A m em u eu g eg q z e; ready = λ A. ready A m em u eu g eg q z e; same = λ A. refl }
+
+    pub refused : (k : Refusal) → refusal_number k ≡ number → Refuses x p v k
+    refused k e A = refuses A m em u eu g eg k e
 
 -- ---- by the rows in use, as they are handed on
 
 module _ {xs : Tables} {p : Position} {us : Tables} (U : RowsInUse xs p us) where
-  pub looked : {m : Looked} (v : Parsed) → m ≡ looked_in us.chart.now us.states.now us.datums.now us.opened.now us.open_names.now us.text.now p v
+  pub looked : {m : Told} (v : Parsed) → m ≡ looked_in us.chart.now us.states.now us.datums.now us.opened.now us.open_names.now us.text.now p v
       → m ≡ looked_in (take 1 xs.chart.now) (take p.states xs.states.now) (take p.datums xs.datums.now) (take p.opened xs.opened.now) (take p.opened xs.open_names.now) (take p.used xs.text.now) p v
   looked v e = e ∙ (λ z. looked_in (U.chart z) (U.states z) (U.datums z) (U.opened z) (U.open_names z) (U.text z) p v)
 

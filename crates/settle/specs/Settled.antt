@@ -1,17 +1,16 @@
 -- An event in form, settled: what is answered, and what is ready to be written.
-use Rattle.std.specs.Prelude.{ℕ, zero, suc, ◌≡◌, Bool, true, false, Result, Ok, Err}
+use Rattle.std.specs.Prelude.{ℕ, zero, suc, ◌≡◌, Bool, true, false, Result, Ok, Err, MatchResult}
 use Rattle.std.proofs.Math.Option.{some}
 use Rattle.definition.specs.declared.Position.{Position}
 use Rattle.definition.specs.Codes.{refusal_number}
 use Rattle.definition.specs.Limits.{limits01}
 use Rattle.definition.specs.declared.codes.Refusal.{Refusal}
 use Rattle.definition.specs.Event.{Event, in_form, keys_differ}
-use Rattle.definition.specs.Rows.{Store}
-use Rattle.definition.specs.Reader.{Lent, store_of, long_enough, in_order, Reply, reply_to}
+use Rattle.definition.specs.Reader.{Lent, store_of, long_enough, in_order, reply_to}
 use Rattle.plan.specs.declared.Plan.{Plan}
+use Rattle.plan.specs.declared.Effect.{Effect}
 use Rattle.plain.specs.Plain.{Parsed, parsed_of}
 use Rattle.whole.specs.Accepted.{Ready, afterwards}
-use Rattle.settle.specs.declared.Settled.{Settled}
 
 -- The questions 1 to 4 are yes; v is what is parsed of the event.
 pub record InForm (x : Lent) (p : Position) (v : Parsed) : Type 0 where
@@ -28,12 +27,15 @@ first_of zero (Ok plan) w = elim (w plan) [ true ↦ 0 | false ↦ 15 ]
 first_of zero (Err k) w = refusal_number k
 first_of (suc k) d w = suc k
 
--- What the definition replies, by what is settled.
-unfoldable pub replied : Store → Event → Settled → Reply
-unfolding afterwards
-replied s e r = elim r.number [ zero ↦ record { number = 0; store = afterwards s e r.plan } | suc k ↦ record { number = suc k; store = s } ]
+-- The event gets 0 and does f.
+pub record Takes (x : Lent) (p : Position) (v : Parsed) (f : Effect) : Type 0 where
+  pub reply : (A : InForm x p v) → reply_to limits01 (store_of x p) (some A.event) ≡ record { number = 0; store = afterwards (store_of x p) A.event f.plan }
+  pub ready : InForm x p v → Ready x p v f.plan f.made f.charge
+  pub same : (A : InForm x p v) → (ready A).accepted.event ≡ A.event
 
-pub record Settles (x : Lent) (p : Position) (v : Parsed) (r : Settled) : Type 0 where
-  pub reply : (A : InForm x p v) → reply_to limits01 (store_of x p) (some A.event) ≡ replied (store_of x p) A.event r
-  pub ready : (A : InForm x p v) → r.number ≡ 0 → Ready x p v r.plan r.made r.charge
-  pub same : (A : InForm x p v) (z : r.number ≡ 0) → (ready A z).accepted.event ≡ A.event
+-- The event gets the number of k.
+abbrev pub Refuses : Lent → Position → Parsed → Refusal → Type 0
+Refuses x p v k = (A : InForm x p v) → reply_to limits01 (store_of x p) (some A.event) ≡ record { number = refusal_number k; store = store_of x p }
+
+abbrev pub Settles : Lent → Position → Parsed → Result Effect Refusal → Type 0
+Settles x p v r = MatchResult r (λ f. Takes x p v f) (λ k. Refuses x p v k)

@@ -3,18 +3,17 @@
 
 #![tactic(auto)]
 
-ghost use Rattle.std.specs.Prelude.{◌≡◌, ◌<◌, if◌then◌else◌, ◌==◌, ◌||◌};
-ghost use Rattle.definition.specs.Codes.{list_number};
-ghost use Rattle.plan.specs.Plan.{planned, no_member, member};
-ghost use Rattle.plan.specs.Plans.{parent_to, declared_row, initial_row, declared_members, declared_plan, as_child, history_p, binding_to, chart_of, scxml_p, default_row, default_to, default_p, defaulted, both_declared, not_child, both_state_p, both_scxml_p, initial_p, donedata_p, value_of, data_p};
+ghost use Rattle.std.specs.Prelude.{◌≡◌, ◌<◌, Some, None, if◌then◌else◌, ◌==◌, ◌||◌};
+ghost use Rattle.plan.specs.Plan.{planned, member};
+ghost use Rattle.plan.specs.Plans.{parent_to, declared_row, initial_row, declared_members, declared_plan, as_child, history_p, chart_of, scxml_p, default_row, default_to, default_p, defaulted, both_declared, not_child, both_state_p, both_scxml_p, initial_p, donedata_p, data_p};
 ghost use Rattle.decision.specs.Told.{told};
 
-use decision::{Decision, begun, counting, idle_in, inside, member, needs, one_member, rest};
+use decision::{Decision, begun, counting, idle_in, inside, needs, one_member, rest};
 use definition::codes::{ListKind, Refusal};
-use definition::{StateId, TransitionId};
+use definition::{RegionId, StateId, TransitionId};
 use plan::{
-    ChartPlan, DatumPlan, Declared, Heard, MemberPlan, MembersPlan, Plan, Put, Seen, Shape,
-    StatePlan, StateTexts, TransitionPlan, TransitionType,
+    ChartPlan, DatumChange, DatumPlan, Declared, Heard, MemberPlan, MembersPlan, NewDatum,
+    NewTransition, Plan, Seen, Shape, StatePlan, TargetPlan, TransitionPlan, TransitionType,
 };
 
 /// The transition of an `initial` attribute.
@@ -26,37 +25,50 @@ fn initial_row(initial: bool, s: StateId, v: Seen) -> TransitionPlan
     if !initial {
         return TransitionPlan::default();
     }
-    TransitionPlan {
+    let row = NewTransition {
         number: TransitionId(v.ids + 1),
         doc: v.docs + 1,
         source: s,
-        mode: TransitionType::INTERNAL,
-        ..TransitionPlan::default()
+        mode: TransitionType::Internal.number(),
+        wildcard: 0,
+        content: RegionId(0),
+        texts: None,
+    };
+    TransitionPlan {
+        added: Some(row),
+        altered: None,
     }
 }
 
 /// Its targets, and the list that the state joins.
 #[tactic(auto, unfolding(plan::specs::Plans::declared_members))]
-fn declared_members(initial: bool, joins: MemberPlan, v: Seen) -> MembersPlan
+fn declared_members(initial: bool, joins: Option<MemberPlan>, v: Seen) -> MembersPlan
     requires { v.ids < 65536 }
     ensures { result ≡ declared_members initial joins v }
 {
+    let targets = if initial {
+        Some(TargetPlan {
+            owner: v.ids + 1,
+            skip: 1,
+        })
+    } else {
+        None
+    };
     MembersPlan {
-        owner: if initial { v.ids + 1 } else { 0 },
-        skip: 1,
+        targets,
         one: joins,
         ..MembersPlan::default()
     }
 }
 
 #[tactic(auto, unfolding(plan::specs::Plans::declared_row))]
-fn declared_row(s: StateId, initial: u32, doc: u32, x: Declared) -> StatePlan
+fn declared_row(s: StateId, initial: Option<u32>, doc: u32, x: Declared) -> StatePlan
     ensures { result ≡ declared_row s.0 initial doc x }
 {
     StatePlan {
         at: s,
         initial,
-        doc,
+        doc: Some(doc),
         parent: x.parent,
         parallel: x.parallel,
         ends: x.ends,
@@ -73,9 +85,9 @@ fn declared_plan(initial: bool, x: Declared, v: Seen, q: Heard) -> Plan
 {
     let drawn = u32::from(initial);
     let docs = v.docs + 1 + drawn;
-    let initial_to = if initial { v.ids + 2 } else { Put::KEEP };
+    let initial_to = if initial { Some(v.ids + 1) } else { None };
     Plan {
-        states: declared_row(q.own, initial_to, docs + 1, x),
+        states: Some(declared_row(q.own, initial_to, docs, x)),
         transitions: initial_row(initial, q.own, v),
         members: declared_members(initial, x.joins, v),
         counters: counting(v.current, v.ids + drawn, docs),
@@ -84,41 +96,43 @@ fn declared_plan(initial: bool, x: Declared, v: Seen, q: Heard) -> Plan
 }
 
 #[tactic(auto, unfolding(plan::specs::Plans::parent_to))]
-fn parent_to(p: StateId) -> u32
-    requires { p.0 < 65536 }
+fn parent_to(p: StateId) -> Option<u32>
     ensures { result ≡ parent_to p.0 }
 {
-    if p.0 == 0 { Put::KEEP } else { p.0 + 1 }
+    if p.0 == 0 { None } else { Some(p.0) }
 }
 
 /// A state joins a list of its parent, unless it is in it already or has no parent.
-fn joins(list: ListKind, already: bool, parent: StateId, s: StateId) -> MemberPlan
-    ensures { result ≡ (if already || (parent.0 == 0) then no_member else member (list_number list) parent.0 s.0) }
+fn joins(list: ListKind, already: bool, parent: StateId, s: StateId) -> Option<MemberPlan>
+    ensures { result ≡ (if already || (parent.0 == 0) then None else Some (member list parent.0 s.0)) }
 {
     if already || parent.0 == 0 {
-        return MemberPlan::default();
+        return None;
     }
-    member(list.number(), parent.0, s.0)
+    Some(MemberPlan {
+        list,
+        owner: parent.0,
+        value: s.0,
+    })
 }
 
 /// It joins its parent's children, once.
 #[tactic(auto, unfolding(plan::specs::Plans::as_child, plan::specs::Seen::child_member))]
-fn as_child(parallel: u32, ends: u32, v: Seen, q: Heard) -> Declared
-    requires { v.state.0 < 65536 }
+fn as_child(parallel: Option<u32>, ends: Option<u32>, v: Seen, q: Heard) -> Declared
     ensures { result ≡ as_child parallel ends v q }
 {
     Declared {
         parent: parent_to(v.state),
         parallel,
         ends,
-        history: Put::KEEP,
+        history: None,
         joins: joins(ListKind::Children, v.joined, v.state, q.own),
     }
 }
 
 /// state, parallel and final.
-pub fn child(parallel: u32, ends: u32, v: Seen, q: Heard) -> Decision
-    requires { (v.ids < 65536) × (v.docs < 65536) × (v.state.0 < 65536) }
+pub fn child(parallel: Option<u32>, ends: Option<u32>, v: Seen, q: Heard) -> Decision
+    requires { (v.ids < 65536) × (v.docs < 65536) }
     ensures { told result ≡ planned (declared_plan q.initial (as_child parallel ends v q) v q) }
 {
     Ok(declared_plan(q.initial, as_child(parallel, ends, v, q), v, q))
@@ -127,12 +141,12 @@ pub fn child(parallel: u32, ends: u32, v: Seen, q: Heard) -> Decision
 /// "History states join `history`, not `states`."
 #[tactic(auto, unfolding(plan::specs::Plans::history_p, plan::specs::Plans::history_member))]
 pub fn history(v: Seen, q: Heard) -> Decision
-    requires { (v.ids < 65536) × (v.docs < 65536) × (v.state.0 < 65536) × (q.history < 65536) }
+    requires { (v.ids < 65536) × (v.docs < 65536) }
     ensures { told result ≡ history_p v q }
 {
     let x = Declared {
-        parent: v.state.0 + 1,
-        history: q.history + 1,
+        parent: Some(v.state.0),
+        history: Some(q.history),
         joins: joins(ListKind::History, false, v.state, q.own),
         ..Declared::default()
     };
@@ -141,14 +155,12 @@ pub fn history(v: Seen, q: Heard) -> Decision
 
 #[tactic(auto, unfolding(plan::specs::Plans::binding_to))]
 fn chart_of(q: Heard) -> ChartPlan
-    requires { (q.binding < 65536) × (q.own.0 < 65536) }
     ensures { result ≡ chart_of q }
 {
     ChartPlan {
-        at: 1,
-        binding: if q.binds { q.binding + 1 } else { Put::KEEP },
-        root: q.own.0 + 1,
-        script: Put::KEEP,
+        binding: if q.binds { Some(q.binding) } else { None },
+        root: Some(q.own.0),
+        script: None,
     }
 }
 
@@ -162,11 +174,11 @@ fn not_child() -> Declared
 
 #[tactic(auto, unfolding(plan::specs::Plans::scxml_p, plan::specs::Plans::scxml_plan))]
 pub fn scxml(v: Seen, q: Heard) -> Decision
-    requires { (v.ids < 65536) × (v.docs < 65536) × (q.binding < 65536) × (q.own.0 < 65536) }
+    requires { (v.ids < 65536) × (v.docs < 65536) }
     ensures { told result ≡ scxml_p v q }
 {
     Ok(Plan {
-        chart: chart_of(q),
+        chart: Some(chart_of(q)),
         ..declared_plan(q.initial, not_child(), v, q)
     })
 }
@@ -174,10 +186,29 @@ pub fn scxml(v: Seen, q: Heard) -> Decision
 fn default_row(t: TransitionId, s: StateId) -> TransitionPlan
     ensures { result ≡ default_row t.0 s.0 }
 {
-    TransitionPlan {
+    let row = NewTransition {
         number: t,
+        doc: 0,
         source: s,
-        ..TransitionPlan::default()
+        mode: TransitionType::External.number(),
+        wildcard: 0,
+        content: RegionId(0),
+        texts: None,
+    };
+    TransitionPlan {
+        added: Some(row),
+        altered: None,
+    }
+}
+
+/// A state as the target of a transition.
+fn target(t: TransitionId, s: StateId) -> MemberPlan
+    ensures { result ≡ member ListKind.Targets t.0 s.0 }
+{
+    MemberPlan {
+        list: ListKind::Targets,
+        owner: t.0,
+        value: s.0,
     }
 }
 
@@ -191,14 +222,15 @@ fn default_to(s: StateId, first: StateId, v: Seen) -> Plan
         return rest(v);
     }
     let t = TransitionId(v.ids + 1);
+    let row = StatePlan {
+        at: s,
+        initial: Some(t.0),
+        ..StatePlan::default()
+    };
     Plan {
-        states: StatePlan {
-            at: s,
-            initial: t.0 + 1,
-            ..StatePlan::default()
-        },
+        states: Some(row),
         transitions: default_row(t, s),
-        members: one_member(ListKind::Targets.number(), t.0, first.0),
+        members: one_member(target(t, first)),
         counters: counting(v.current, t.0, v.docs),
         ..rest(v)
     }
@@ -229,12 +261,11 @@ fn defaulted(first: StateId, x: Declared, v: Seen, q: Heard) -> Plan
     }
     let t = TransitionId(v.ids + 1);
     Plan {
-        states: declared_row(q.own, t.0 + 1, v.docs + 2, x),
+        states: Some(declared_row(q.own, Some(t.0), v.docs + 1, x)),
         transitions: default_row(t, q.own),
         members: MembersPlan {
-            skip: 1,
             one: x.joins,
-            two: member(ListKind::Targets.number(), t.0, first.0),
+            two: Some(target(t, first)),
             ..MembersPlan::default()
         },
         counters: counting(v.current, t.0, v.docs + 1),
@@ -244,34 +275,43 @@ fn defaulted(first: StateId, x: Declared, v: Seen, q: Heard) -> Plan
 
 /// An empty state or scxml: declared, and ended.
 #[tactic(auto, unfolding(plan::specs::Plans::both_declared, plan::specs::Plans::unless_zero_p))]
-fn both_declared(chart: ChartPlan, initial: bool, x: Declared, v: Seen, q: Heard) -> Decision
+fn both_declared(
+    chart: Option<ChartPlan>,
+    initial: bool,
+    x: Declared,
+    v: Seen,
+    q: Heard,
+) -> Decision
     requires { (v.ids < 65536) × (v.docs < 65536) }
     ensures { told result ≡ both_declared chart initial x v q }
 {
     needs(q.own.0)?;
-    let plan = if !initial && v.own.0 == 0 {
-        defaulted(v.eldest, x, v, q)
-    } else {
-        declared_plan(initial, x, v, q)
-    };
-    Ok(Plan { chart, ..plan })
+    if !initial && v.own.0 == 0 {
+        return Ok(Plan {
+            chart,
+            ..defaulted(v.eldest, x, v, q)
+        });
+    }
+    Ok(Plan {
+        chart,
+        ..declared_plan(initial, x, v, q)
+    })
 }
 
 #[tactic(auto, unfolding(plan::specs::Plans::both_state_p))]
 pub fn both_state(v: Seen, q: Heard) -> Decision
-    requires { (v.ids < 65536) × (v.docs < 65536) × (v.state.0 < 65536) }
+    requires { (v.ids < 65536) × (v.docs < 65536) }
     ensures { told result ≡ both_state_p v q }
 {
-    let x = as_child(Put::KEEP, Put::KEEP, v, q);
-    both_declared(ChartPlan::default(), q.initial, x, v, q)
+    both_declared(None, q.initial, as_child(None, None, v, q), v, q)
 }
 
 #[tactic(auto, unfolding(plan::specs::Plans::both_scxml_p))]
 pub fn both_scxml(v: Seen, q: Heard) -> Decision
-    requires { (v.ids < 65536) × (v.docs < 65536) × (q.binding < 65536) × (q.own.0 < 65536) }
+    requires { (v.ids < 65536) × (v.docs < 65536) }
     ensures { told result ≡ both_scxml_p v q }
 {
-    both_declared(chart_of(q), q.initial, not_child(), v, q)
+    both_declared(Some(chart_of(q)), q.initial, not_child(), v, q)
 }
 
 /// The state's initial is 0.
@@ -293,14 +333,15 @@ pub fn donedata(v: Seen) -> Decision
     ensures { told result ≡ donedata_p v }
 {
     needs(v.state.0)?;
+    let row = StatePlan {
+        at: v.state,
+        texts: Some(Shape::First),
+        donedata: Some(v.parameters + 1),
+        filled: Some(0),
+        ..StatePlan::default()
+    };
     Ok(Plan {
-        states: StatePlan {
-            at: v.state,
-            texts: StateTexts::DONEDATA,
-            donedata: v.parameters + 2,
-            filled: 1,
-            ..StatePlan::default()
-        },
+        states: Some(row),
         ..begun(v)
     })
 }
@@ -312,19 +353,19 @@ pub fn datum(v: Seen, q: Heard) -> Decision
     ensures { told result ≡ data_p v q }
 {
     needs(v.state.0)?;
-    let shape = if q.expr { Shape::PLAIN } else { Shape::TEXT };
+    let shape = if q.expr { Shape::First } else { Shape::Second };
     let datums = if q.found == v.datums + 1 {
         DatumPlan {
-            added: 1,
-            state: v.state,
-            shape,
-            ..DatumPlan::default()
+            added: Some(NewDatum {
+                state: v.state,
+                shape,
+            }),
+            altered: None,
         }
     } else {
         DatumPlan {
-            at: q.found,
-            shape,
-            ..DatumPlan::default()
+            added: None,
+            altered: Some(DatumChange { at: q.found, shape }),
         }
     };
     Ok(Plan { datums, ..begun(v) })

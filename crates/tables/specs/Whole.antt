@@ -1,41 +1,52 @@
 -- A plan on a whole lent table, n rows of which are in use: regions, members named one by one, what is open.
-use Rattle.std.specs.Prelude.{ℕ, zero, suc, ◌+◌, List, [], ◌∷◌, set}
+use Rattle.std.specs.Prelude.{ℕ, zero, suc, ◌+◌, Option, Some, None, List, [], ◌∷◌, set}
 use Rattle.definition.specs.Rows.{Row, Table}
-use Rattle.definition.specs.Change.{open_region_row}
 use Rattle.plan.specs.declared.MemberPlan.{MemberPlan}
 use Rattle.plan.specs.declared.OpenPlan.{OpenPlan}
 use Rattle.plan.specs.declared.OpenRegionPlan.{OpenRegionPlan}
 use Rattle.plan.specs.declared.RegionPlan.{RegionPlan}
-use Rattle.plan.specs.After.{member_row, region_row}
+use Rattle.plan.specs.After.{member_of, region_row, open_region_of}
+use Rattle.plan.specs.Decided.{one_there}
+use Rattle.tables.specs.declared.OpenedName.{OpenedName}
 
--- A row that is there unless k is 0, and how many rows there are then.
-unfoldable pub set_unless : {A : Type 0} → ℕ → List A → ℕ → A → List A
-set_unless zero t i r = t
-set_unless (suc k) t i r = set t i r
+-- What is added is the row n.
+unfoldable pub added_in : {A B : Type 0} → (A → B) → Option A → ℕ → List B → List B
+added_in f None n t = t
+added_in f (Some p) n t = set t n (f p)
 
-unfoldable pub after : ℕ → ℕ → ℕ
-after n zero = n
-after n (suc k) = n + 1
+-- Up to two rows, from the row n on.
+unfoldable pub both_in : {A B : Type 0} → (A → B) → Option A → Option A → ℕ → List B → List B
+unfolding added_in one_there
+both_in f p q n t = added_in f q (n + one_there p) (added_in f p n t)
 
 unfoldable pub regions_in : RegionPlan → ℕ → Table → Table
-unfolding set_unless after region_row
-regions_in p n t = set_unless p.two.0 (set_unless p.one.0 t n (region_row p.one.0)) (after n p.one.0) (region_row p.two.0)
+unfolding both_in region_row
+regions_in p n t = both_in region_row p.one p.two n t
 
 -- ---- members
 
-unfoldable pub member_in : MemberPlan → ℕ → Table → Table
-unfolding set_unless member_row
-member_in p n t = set_unless p.list t n (member_row p.list p.owner p.value)
+unfoldable pub members_in : Option MemberPlan → Option MemberPlan → ℕ → Table → Table
+unfolding both_in member_of
+members_in p q n t = both_in member_of p q n t
 
--- ---- open elements: 0, one more is open; else the rows stay as they are, and only the count changes
+-- ---- open elements: a row where one opens; else the rows stay as they are, and only the count changes
 
-unfoldable pub opened_row : ℕ → ℕ → OpenPlan → Row
-opened_row g n p = g ∷ p.state.0 ∷ p.transition.0 ∷ n ∷ 0 ∷ 0 ∷ 0 ∷ 0 ∷ []
+-- An element's own name, by what becomes of the open elements: 0, one more is open.
+unfoldable pub opens : ℕ → ℕ → Row → Option OpenedName
+opens zero n r = Some (record { length = n; row = r })
+opens (suc m) n r = None
 
-unfoldable pub open_row_in : ℕ → ℕ → Table → Row → Table
-open_row_in zero n t r = set t n r
-open_row_in (suc m) n t r = t
+unfoldable pub opened_row : ℕ → OpenPlan → OpenedName → Row
+opened_row g p x = g ∷ p.state.0 ∷ p.transition.0 ∷ x.length ∷ 0 ∷ 0 ∷ 0 ∷ 0 ∷ []
+
+unfoldable pub opened_in : ℕ → OpenPlan → Option OpenedName → ℕ → Table → Table
+unfolding added_in opened_row
+opened_in g p x n t = added_in (opened_row g p) x n t
+
+unfoldable pub open_names_in : Option OpenedName → ℕ → Table → Table
+unfolding added_in
+open_names_in x n t = added_in (λ x. x.row) x n t
 
 unfoldable pub open_regions_in : OpenRegionPlan → Table → Table
-unfolding set_unless after open_region_row
-open_regions_in p t = set_unless p.by (set_unless p.tag t p.kept (open_region_row p.region.0 p.tag)) (after p.kept p.tag) (open_region_row p.inner.0 p.by)
+unfolding both_in open_region_of
+open_regions_in p t = both_in open_region_of p.one p.two p.kept t

@@ -15,7 +15,8 @@ use Rattle.definition.specs.Rules.{names_lead}
 use Rattle.definition.proofs.Finds.{find_le, cells_length}
 use Rattle.words.specs.declared.Word.{Word}
 use Rattle.words.specs.Next.{next_word, moved}
-use Rattle.words.proofs.Laws.{pieces_moved}
+use Rattle.words.specs.Left.{words_left}
+use Rattle.words.proofs.Laws.{Step, step, pieces_moved}
 use Rattle.text.proofs.Laws.{part_at}
 use Rattle.names.specs.Names.{words_from}
 use Rattle.names.proofs.Laws.{words_next, word_lies}
@@ -205,3 +206,66 @@ module _ (st ms : Table) (t : List ℕ) (count used off len owner : ℕ) (room�
         where
           again : take m ms' ++ (member_row 6 owner (suc k) ∷ map (member_row 6 owner) (resolve t (enter (name_cells (take n st')) k (piece_cell piece)) (rest off v x.end)).refs) ≡ members
           again = unfold resolve in sym (ap (λ (ps : List Piece). take m ms' ++ map (member_row 6 owner) (resolve t (name_cells (take n st')) ps).refs) next) ∙ E.refs
+
+-- ---- the loop over the words, as the iterator gives them: where those that are left begin is not known
+
+module _ (st ms : Table) (t : List ℕ) (count used off len owner : ℕ) (room₁ : Room st ms t count used off len) where
+  abbrev v₁ : List ℕ
+  v₁ = bytes_at t (record { off = off; len = len })
+
+  pub record EnteringTo (st' ms' : Table) (n m : ℕ) (ps : List Piece) : Type 0 where
+    pub at : ℕ
+    pub left : ps ≡ words_left is_separator v₁ at
+    pub entering : State st ms t count used off len owner room₁ st' ms' n m at
+
+  pub entering_first : (w : List ℕ) → w ≡ v₁ → EnteringTo st ms count used (words_left is_separator w 0)
+  entering_first w e = record { at = 0; left = ap (λ (y : List ℕ). words_left is_separator y 0) e; entering = entering_start st ms t count used off len owner room₁ }
+
+  module _ (st' ms' : Table) (n m : ℕ) (ps : List Piece) (K : EnteringTo st' ms' n m ps) where
+    pub entering_last : ps ≡ [] → Entered st ms t count used off len owner st' ms' n m
+    unfolding words_left
+    entering_last e = entering_end st ms t count used off len owner room₁ st' ms' n m K.at K.entering (sym K.left ∙ e)
+
+    module _ (p : Piece) (qs : List Piece) (e : ps ≡ p ∷ qs) where
+      abbrev S : Step is_separator v₁ K.at p qs
+      S = step is_separator v₁ K.at p qs (sym K.left ∙ e)
+
+      begins : p.off ≡ S.word.start
+      begins = ap (λ (q : Piece). q.off) S.piece
+
+      long : length p.word ≡ S.word.end - S.word.start
+      long = omega (arith, S.ends, begins)
+
+      abbrev given : List ℕ
+      given = bytes_at t (record { off = off + p.off; len = length p.word })
+
+      same_bytes : given ≡ bytes_at t (record { off = off + S.word.start; len = S.word.end - S.word.start })
+      same_bytes = ap₂ (λ (a b : ℕ). bytes_at t (record { off = off + a; len = b })) begins long
+
+      pub given_fits : off + p.off + length p.word ≤ length t
+      given_fits = omega (arith, (name_fits_lem st ms t count used off len owner room₁ st' ms' n m K.at K.entering S.word S.is S.some S.there).1, begins, long)
+
+      pub given_room : (n ≤ length st') × (count_after n (find_name t (name_cells (take n st')) given) ≤ length st')
+      given_room =
+          subst (λ (x : List ℕ). (n ≤ length st') × (count_after n (find_name t (name_cells (take n st')) x) ≤ length st')) (sym same_bytes)
+          (name_room st ms t count used off len owner room₁ st' ms' n m K.at K.entering S.word S.is S.some S.there)
+
+      pub given_member : m < length ms'
+      given_member = member_room st ms t count used off len owner room₁ st' ms' n m K.at K.entering S.word S.is S.some S.there
+
+      pub given_small : (i : ℕ) → i ≡ find_name t (name_cells (take n st')) given → (n ≤ 256) × (i ≤ n)
+      given_small i ei =
+          name_small st ms t count used off len owner room₁ st' ms' n m K.at K.entering S.word S.is S.some S.there i (ei ∙ ap (find_name t (name_cells (take n st'))) same_bytes)
+
+      pub entering_goes : (i : ℕ) (st'' ms'' : Table) (n' : ℕ) → i ≡ find_name t (name_cells (take n st')) given
+          → st'' ≡ placed_row st' n i (record { at = off + p.off + 1; len = length p.word }) → ms'' ≡ set ms' m (member_row 6 owner (i + 1)) → n' ≡ count_after n i
+          → EnteringTo st'' ms'' n' (m + 1) qs
+      entering_goes i st'' ms'' n' ei es em en =
+          record {
+            at = S.word.end;
+            left = S.rest;
+            entering =
+                entering_more st ms t count used off len owner room₁ st' ms' n m K.at K.entering S.word S.is S.some S.there i st'' ms'' n'
+                (ei ∙ ap (find_name t (name_cells (take n st'))) same_bytes)
+                (es ∙ ap₂ (λ (a b : ℕ). placed_row st' n i (record { at = off + a + 1; len = b })) begins long) em en;
+          }

@@ -18,7 +18,7 @@ use fill::TextCell;
 use names::find_state;
 use nesting::names_state;
 use texts::key_cell;
-use words::next_state_word;
+use words::each::StateWords;
 
 #[tactic(auto, using(crate::proofs::Laws::state_row_lem))]
 fn put_state(states: &mut [[u32; 24]], i: usize, name: TextCell)
@@ -31,6 +31,7 @@ fn put_state(states: &mut [[u32; 24]], i: usize, name: TextCell)
     states[i] = row;
 }
 
+// The list is a number, as the row gets it: C lends rows of numbers.
 #[tactic(auto, using(crate::proofs::Laws::member_row_lem))]
 fn put_member(members: &mut [[u32; 8]], i: usize, kind: u32, owner: u32, value: u32)
     requires { i < length members.old }
@@ -59,7 +60,7 @@ fn enter_name(
     ensures value { result ≡ find_name text.now (name_cells (take count states.old)) (bytes_at text.now (record { off = off; len = len })) }
     ensures states_after { states.new ≡ placed_row states.old count result (record { at = off + 1; len = len }) }
 {
-    let found = find_state(states, count, text, &text[off..off + len], near);
+    let found = find_state(&states[..count], text, &text[off..off + len], near);
     if found < count {
         return found;
     }
@@ -100,21 +101,22 @@ fn enter_targets(
     ensures { Entered states.old members.old text.now rows.states rows.members off len owner states.new members.new result.states result.members }
 {
     let v = &text[off..off + len];
-    let mut at = 0;
     // Targets that are listed together are often neighbours.
     let mut near = 0;
-    while at < v.len() {
-        let next = next_state_word(v, at);
-        if next.start == next.end {
-            return rows;
-        }
-        let long = next.end - next.start;
-        let k = enter_name(states, rows.states, text, off + next.start, long, near);
+    for found in (StateWords { v, at: 0 }) {
+        let k = enter_name(
+            states,
+            rows.states,
+            text,
+            off + found.off,
+            found.word.len(),
+            near,
+        );
         near = k + 1;
-        put_member(members, rows.members, ListKind::TARGETS, owner, near as u32);
+        let list = ListKind::Targets as u32;
+        put_member(members, rows.members, list, owner, near as u32);
         rows.states = count_after(rows.states, k);
         rows.members += 1;
-        at = next.end;
     }
     rows
 }
@@ -159,7 +161,7 @@ fn write_state(
     requires bound { ((1 ≤ (cell_at t.now 2).at) × ((cell_at t.now 2).at + (cell_at t.now 2).len ≤ suc (length text.now))) × InText text.now (cell_at t.now 4) }
     ensures { NamesWritten states.old members.old text.now rows.states rows.members owner 1 (own_piece text.now (cell_at t.now 2) ∷ pieces_at text.now (cell_at t.now 4)) states.new members.new result.states result.members }
 {
-    let own = key_cell(t, Key::ID);
+    let own = key_cell(t, Key::Id as usize);
     let k = enter_name(
         states,
         rows.states,
@@ -177,12 +179,12 @@ fn write_state(
         members,
         text,
         after,
-        key_cell(t, Key::INITIAL),
+        key_cell(t, Key::Initial as usize),
         owner,
     )
 }
 
-/// The names that an event brings: rows of states, and members for targets.
+/// The names that an event brings: rows of states, and members for targets. Kind and element are numbers, as they were: an enum on its own would ask more of a caller.
 pub fn write_names(
     states: &mut [[u32; 24]],
     members: &mut [[u32; 8]],
@@ -202,14 +204,21 @@ pub fn write_names(
         states: count,
         members: used,
     };
-    if kind == Kind::END {
+    if kind == Kind::End as u32 {
         return rows;
     }
     if names_state(tag) {
         return write_state(states, members, text, rows, t, owner);
     }
-    if tag == Tag::TRANSITION {
-        return write_targets(states, members, text, rows, key_cell(t, Key::TARGET), owner);
+    if tag == Tag::Transition as u32 {
+        return write_targets(
+            states,
+            members,
+            text,
+            rows,
+            key_cell(t, Key::Target as usize),
+            owner,
+        );
     }
     rows
 }

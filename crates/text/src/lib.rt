@@ -92,6 +92,7 @@ pub fn binding_code(v: &[u8]) -> u32
     code_in(&[b"early", b"late"], v)
 }
 
+// Three lists of words; each function is its list, and what they share is `code_in`.
 #[tactic(auto, unfolding(definition::specs::Text::str, definition::specs::Elements::codings, definition::specs::Elements::words_taken))]
 pub fn history_code(v: &[u8]) -> u32
     ensures { result ≡ place_in (words_taken codings tag.history key.type) (lowered v.now) }

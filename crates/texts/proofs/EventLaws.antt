@@ -8,6 +8,7 @@ use native.Mathlib.Omega.{arith}
 use lib.ListN.{length, get_or, take, replicate}
 use borrow.Author.Tests.{eq-eqb, ne_eqb}
 use Rattle.definition.specs.Text.{Span, quoted, trim, generated_name}
+use Rattle.definition.specs.Codes.{kind_number, tag_number}
 use Rattle.definition.specs.Rows.{Cell, no_cell, cell_at}
 use Rattle.definition.specs.Look.{Load, payload, text_loads, name_loads, shift}
 use Rattle.lines.specs.Parts.{part}
@@ -171,23 +172,23 @@ module _ (src : List ℕ) (p : Plain) (b : ℕ) (e : Ends) (E : Ended b (parsed_
   ended_values = omega (arith, E.values, E.text, E.made, E.small)
 
   module _ (w : List ℕ) (is : w ≡ part src p.text.at p.text.len) where
-    text_end : e.text ≡ e.values + length (payload (text_loads p.tag (text_if p.kind w)))
+    text_end : e.text ≡ e.values + length (payload (text_loads (tag_number p.tag) (text_if (kind_number p.kind) w)))
     unfolding parsed_in
-    text_end = E.text ∙ ap (λ (x : List ℕ). e.values + length (payload (text_loads p.tag (text_if p.kind x)))) (sym is)
+    text_end = E.text ∙ ap (λ (x : List ℕ). e.values + length (payload (text_loads (tag_number p.tag) (text_if (kind_number p.kind) x)))) (sym is)
 
-    pub ended_text : (e.text ≡ e.values + length (payload (text_loads p.tag (text_if p.kind w)))) × (e.text ≤ 65535)
+    pub ended_text : (e.text ≡ e.values + length (payload (text_loads (tag_number p.tag) (text_if (kind_number p.kind) w)))) × (e.text ≤ 65535)
     ended_text = (text_end, omega (arith, E.made, E.small))
 
-    pub ended_small : e.values + length (payload (text_loads p.tag (text_if p.kind w))) ≤ 65535
+    pub ended_small : e.values + length (payload (text_loads (tag_number p.tag) (text_if (kind_number p.kind) w))) ≤ 65535
     ended_small = omega (arith, text_end, E.made, E.small)
 
     pub texts_all : (made : Bool) (t₁ t₂ t₃ r : List ℕ) (a q c : TextCell)
-        → t₁ ≡ texts_in b (loads_in src (take p.count p.slots)) (replicate 64 0) → t₂ ≡ texts_in e.values (text_loads p.tag (text_if p.kind w)) t₁ → Named made e.text e.all t₂ t₃
-        → as_cell a ≡ trimmed_of p.tag e.values (text_if p.kind w) (cell 0 0) → as_cell q ≡ quoted_of p.tag e.values (text_if p.kind w)
-        → as_cell c ≡ trimmed_of p.tag e.values (text_if p.kind w) (cell (b + 1) 0) → r ≡ closed (as_cell a) (as_cell q) (as_cell c) t₃ → Texts b (parsed_in src p) made e r
+        → t₁ ≡ texts_in b (loads_in src (take p.count p.slots)) (replicate 64 0) → t₂ ≡ texts_in e.values (text_loads (tag_number p.tag) (text_if (kind_number p.kind) w)) t₁ → Named made e.text e.all t₂ t₃
+        → as_cell a ≡ trimmed_of (tag_number p.tag) e.values (text_if (kind_number p.kind) w) (cell 0 0) → as_cell q ≡ quoted_of (tag_number p.tag) e.values (text_if (kind_number p.kind) w)
+        → as_cell c ≡ trimmed_of (tag_number p.tag) e.values (text_if (kind_number p.kind) w) (cell (b + 1) 0) → r ≡ closed (as_cell a) (as_cell q) (as_cell c) t₃ → Texts b (parsed_in src p) made e r
     unfolding parsed_in no_cell cell
     texts_all made t₁ t₂ t₃ r a q c h₁ h₂ h₃ ea eq ec hr =
         let s : b + 1 ≡ suc b = omega arith in
-        texts_made b (parsed_in src p) made e t₁ t₂ t₃ r (as_cell a) (as_cell q) (as_cell c) h₁ E (h₂ ∙ ap (λ (x : List ℕ). texts_in e.values (text_loads p.tag (text_if p.kind x)) t₁) is) h₃
-        (ea ∙ ap (λ (x : List ℕ). trimmed_of p.tag e.values (text_if p.kind x) no_cell) is) (eq ∙ ap (λ (x : List ℕ). quoted_of p.tag e.values (text_if p.kind x)) is)
-        (ec ∙ ap₂ (λ (x : List ℕ) (n : ℕ). trimmed_of p.tag e.values (text_if p.kind x) (cell n 0)) is s) hr
+        texts_made b (parsed_in src p) made e t₁ t₂ t₃ r (as_cell a) (as_cell q) (as_cell c) h₁ E (h₂ ∙ ap (λ (x : List ℕ). texts_in e.values (text_loads (tag_number p.tag) (text_if (kind_number p.kind) x)) t₁) is) h₃
+        (ea ∙ ap (λ (x : List ℕ). trimmed_of (tag_number p.tag) e.values (text_if (kind_number p.kind) x) no_cell) is) (eq ∙ ap (λ (x : List ℕ). quoted_of (tag_number p.tag) e.values (text_if (kind_number p.kind) x)) is)
+        (ec ∙ ap₂ (λ (x : List ℕ) (n : ℕ). trimmed_of (tag_number p.tag) e.values (text_if (kind_number p.kind) x) (cell n 0)) is s) hr

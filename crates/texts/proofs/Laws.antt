@@ -12,6 +12,7 @@ use Rattle.definition.specs.Rows.{Cell, no_cell, cell_at, with_cell}
 use Rattle.definition.specs.Look.{Load, payload}
 use Rattle.words.proofs.Laws.{by}
 use Rattle.plain.specs.declared.Slot.{Slot}
+use Rattle.definition.specs.Codes.{key_code}
 use Rattle.plain.specs.Plain.{slot_bytes, loads_in}
 use Rattle.plain.specs.Keyed.{no_slot}
 use Rattle.fill.specs.declared.TextCell.{TextCell}
@@ -66,7 +67,7 @@ module _ (t₀ : List ℕ) (base : ℕ) (src : List ℕ) (ss : List Slot) where
 
     module _ (h : i < length ss) (v : List ℕ) (ev : v ≡ slot_bytes src (get_or ss i no_slot)) where
       abbrev load : Load
-      load = record { key = (get_or ss i no_slot).code; bytes = v }
+      load = record { key = key_code (get_or ss i no_slot).code; bytes = v }
 
       abbrev others : List Load
       others = loads_in src (drop (i + 1) ss)
@@ -75,17 +76,17 @@ module _ (t₀ : List ℕ) (base : ℕ) (src : List ℕ) (ss : List Slot) where
       unfolding loads_in
       next =
           ap (loads_in src) (drop-cons ss i no_slot h)
-          ∙ ap₂ (λ (b : List ℕ) (k : ℕ). record { key = (get_or ss i no_slot).code; bytes = b } ∷ loads_in src (drop k ss)) (sym ev) (sym (add-one i))
+          ∙ ap₂ (λ (b : List ℕ) (k : ℕ). record { key = key_code (get_or ss i no_slot).code; bytes = b } ∷ loads_in src (drop k ss)) (sym ev) (sym (add-one i))
 
       pub text_fits : pos + length v + length (payload others) ≡ base + length (payload (loads_in src ss))
       unfolding payload
       text_fits = omega (arith, T.sum, ap (λ (x : List Load). length (payload x)) next, length-append v (payload others))
 
-      pub texting_more : (t₁ : List ℕ) (x : Cell) → x ≡ cell (pos + 1) (pos + length v - pos) → t₁ ≡ text_put (get_or ss i no_slot).code x t → Texting t₀ base src ss t₁ (pos + length v) (i + 1)
+      pub texting_more : (t₁ : List ℕ) (x : Cell) → x ≡ cell (pos + 1) (pos + length v - pos) → (n : ℕ) → n ≡ key_code (get_or ss i no_slot).code → t₁ ≡ text_put n x t → Texting t₀ base src ss t₁ (pos + length v) (i + 1)
       unfolding texts_in
-      texting_more t₁ x ex e =
+      texting_more t₁ x ex n en e =
           let y : pos + length v - pos ≡ length v = omega arith in
-          let z : t₁ ≡ text_put load.key (cell (suc pos) (length v)) t = e ∙ ap (λ (c : Cell). text_put load.key c t) (ex ∙ ap₂ cell (add-one pos) y) in
+          let z : t₁ ≡ text_put load.key (cell (suc pos) (length v)) t = e ∙ ap (λ (k : ℕ). text_put k x t) en ∙ ap (λ (c : Cell). text_put load.key c t) (ex ∙ ap₂ cell (add-one pos) y) in
           record {
             rest = ap (texts_in (pos + length v) others) z ∙ sym (ap (λ (x : List Load). texts_in pos x t) next) ∙ T.rest;
             sum = text_fits;

@@ -3,6 +3,7 @@
 #![tactic(auto)]
 
 ghost use Rattle.std.specs.Prelude.{◌≡◌, ◌+◌, ◌-◌, ◌≤◌, length, replicate, take};
+ghost use Rattle.definition.specs.Codes.{kind_number, tag_number};
 ghost use Rattle.definition.specs.Rows.{cell_at};
 ghost use Rattle.definition.specs.Look.{payload, text_loads};
 ghost use Rattle.plain.specs.Plain.{loads_in, parsed_in, text_if};
@@ -16,7 +17,7 @@ use payload::Ends;
 use plain::{Plain, Slot, bytes_of};
 use words::trim;
 
-// Keys of texts that the code puts in itself: a generated name is an id; the event's own text, and an assign's in quotes, have numbers after those of the keys.
+// Places in the table of texts, and no kinds. Keys of texts that the code puts in itself: a generated name is an id; the event's own text, and an assign's in quotes, have numbers after those of the keys.
 const ID: u32 = 1;
 
 const TEXT: u32 = 29;
@@ -66,7 +67,7 @@ fn slot_texts(t: &mut [u32], src: &[u8], slots: &[Slot], base: usize)
     let mut pos = base;
     for slot in slots {
         let end = pos + bytes_of(src, *slot).len();
-        put_text(t, slot.code, text_between(pos, end));
+        put_text(t, slot.number(), text_between(pos, end));
         pos = end;
     }
 }
@@ -90,14 +91,14 @@ fn close_texts(t: &mut [u32], trimmed: TextCell, quoted: TextCell, content: Text
 }
 
 // The event's text at `at`, trimmed; an assign has none.
-fn trimmed_cell(kind: u32, tag: u32, text: &[u8], at: usize, none: TextCell) -> TextCell
-    requires { at + length (payload (text_loads tag (text_if kind text.now))) ≤ 65535 }
-    ensures { as_cell result ≡ trimmed_of tag at (text_if kind text.now) (as_cell none) }
+fn trimmed_cell(kind: Kind, tag: Tag, text: &[u8], at: usize, none: TextCell) -> TextCell
+    requires { at + length (payload (text_loads (tag_number tag) (text_if (kind_number kind) text.now))) ≤ 65535 }
+    ensures { as_cell result ≡ trimmed_of (tag_number tag) at (text_if (kind_number kind) text.now) (as_cell none) }
 {
-    if kind != Kind::WHOLE {
+    if kind != Kind::Whole {
         return none;
     }
-    if tag == Tag::ASSIGN {
+    if tag == Tag::Assign {
         return none;
     }
     let part = trim(text);
@@ -107,44 +108,40 @@ fn trimmed_cell(kind: u32, tag: u32, text: &[u8], at: usize, none: TextCell) -> 
     }
 }
 
-// An assign's text in quotes, from `at` to `end`.
-fn quoted_cell(kind: u32, tag: u32, text: &[u8], at: usize, end: usize) -> TextCell
-    requires { (end ≡ at + length (payload (text_loads tag (text_if kind text.now)))) × (end ≤ 65535) }
-    ensures { as_cell result ≡ quoted_of tag at (text_if kind text.now) }
+// An assign's text in quotes, as it is written.
+fn quoted_cell(kind: Kind, tag: Tag, text: &[u8], e: Ends) -> TextCell
+    requires { (e.text ≡ e.values + length (payload (text_loads (tag_number tag) (text_if (kind_number kind) text.now)))) × (e.text ≤ 65535) }
+    ensures { as_cell result ≡ quoted_of (tag_number tag) e.values (text_if (kind_number kind) text.now) }
 {
-    if kind != Kind::WHOLE {
+    if kind != Kind::Whole {
         return TextCell::NONE;
     }
-    if tag != Tag::ASSIGN {
+    if tag != Tag::Assign {
         return TextCell::NONE;
     }
-    text_between(at, end)
+    text_between(e.values, e.text)
 }
 
 // The event's text among the texts, by the key of texts or of quoted ones.
-fn put_own(t: &mut [u32], kind: u32, tag: u32, text: &[u8], at: usize, end: usize)
-    requires { (end ≡ at + length (payload (text_loads tag (text_if kind text.now)))) × (end ≤ 65535) }
-    ensures { t.new ≡ texts_in at (text_loads tag (text_if kind text.now)) t.old }
+fn put_own(t: &mut [u32], kind: Kind, tag: Tag, text: &[u8], e: Ends)
+    requires { (e.text ≡ e.values + length (payload (text_loads (tag_number tag) (text_if (kind_number kind) text.now)))) × (e.text ≤ 65535) }
+    ensures { t.new ≡ texts_in e.values (text_loads (tag_number tag) (text_if (kind_number kind) text.now)) t.old }
 {
-    if kind != Kind::WHOLE {
+    if kind != Kind::Whole {
         return;
     }
-    if tag == Tag::ASSIGN {
-        put_text(t, QUOTED, text_between(at, end));
-        return;
-    }
-    put_text(t, TEXT, text_between(at, end));
+    let key = if tag == Tag::Assign { QUOTED } else { TEXT };
+    put_text(t, key, text_between(e.values, e.text));
 }
 
 // A generated name among the texts, as the id.
-fn put_made(t: &mut [u32], made: bool, at: usize, end: usize)
-    requires { (at ≤ end) × (end ≤ 65535) }
-    ensures { Named made at end t.old t.new }
+fn put_made(t: &mut [u32], made: bool, e: Ends)
+    requires { (e.text ≤ e.all) × (e.all ≤ 65535) }
+    ensures { Named made e.text e.all t.old t.new }
 {
-    if !made {
-        return;
+    if made {
+        put_text(t, ID, text_between(e.text, e.all));
     }
-    put_text(t, ID, text_between(at, end));
 }
 
 /// Where the texts of an event lie in the arena, by key, put into a table of zeros: its payload begins at `base`, and its parts end as `e` says.
@@ -154,10 +151,10 @@ pub fn texts_of(t: &mut [u32], src: &[u8], p: Plain, base: usize, made: bool, e:
 {
     let text = bytes_of(src, p.text);
     value_texts(t, src, p, base);
-    put_own(t, p.kind, p.tag, text, e.values, e.text);
-    put_made(t, made, e.text, e.all);
+    put_own(t, p.kind, p.tag, text, e);
+    put_made(t, made, e);
     let a = trimmed_cell(p.kind, p.tag, text, e.values, TextCell::NONE);
-    let q = quoted_cell(p.kind, p.tag, text, e.values, e.text);
+    let q = quoted_cell(p.kind, p.tag, text, e);
     let nothing = text_between(base, base);
     let c = trimmed_cell(p.kind, p.tag, text, e.values, nothing);
     close_texts(t, a, q, c);

@@ -237,8 +237,12 @@ fn last_line(stream: &[u8], at: usize) -> Option<Last>
 }
 
 // The lines after the name `n`, if they are in form.
-fn walk_pairs(stream: &[u8], kind: Option<Kind>, n: LineOf<Tag>, pairs: &mut [Pair]) -> Option<Walk>
-    requires pairs_len { length pairs.old ≡ 16 }
+fn walk_pairs(
+    stream: &[u8],
+    kind: Option<Kind>,
+    n: LineOf<Tag>,
+    pairs: &mut [Pair; 16],
+) -> Option<Walk>
     requires next_nonzero { 0 < n.next }
     requires reached { Reached stream.now n.next (made (kind_code kind) (tag_number n.what) n.part 0 no_pairs) }
     ensures { MatchOption result (broken begun ≡ settled (walked (first_event stream.now))) (λ w. (walked_by w.walked pairs.new ≡ settled (walked (first_event stream.now))) × (w.end ≡ event_length stream.now)) }
@@ -270,8 +274,7 @@ fn walk_pairs(stream: &[u8], kind: Option<Kind>, n: LineOf<Tag>, pairs: &mut [Pa
 }
 
 // The lines of a stream's first event, if they are in form.
-fn walk_event(stream: &[u8], pairs: &mut [Pair]) -> Option<Walk>
-    requires { length pairs.old ≡ 16 }
+fn walk_event(stream: &[u8], pairs: &mut [Pair; 16]) -> Option<Walk>
     ensures { MatchOption result (broken begun ≡ settled (walked (first_event stream.now))) (λ w. (walked_by w.walked pairs.new ≡ settled (walked (first_event stream.now))) × (w.end ≡ event_length stream.now)) }
 {
     let e = event_line(stream)?;
@@ -280,8 +283,7 @@ fn walk_event(stream: &[u8], pairs: &mut [Pair]) -> Option<Walk>
 }
 
 // The lines of a stream's first event, up to where it ends.
-pub fn walk_lines(stream: &[u8], pairs: &mut [Pair]) -> Walk
-    requires { length pairs.old ≡ 16 }
+pub fn walk_lines(stream: &[u8], pairs: &mut [Pair; 16]) -> Walk
     ensures lines { walked_by result.walked pairs.new ≡ settled (walked (first_event stream.now)) }
     ensures end { result.end ≡ event_length stream.now }
 {

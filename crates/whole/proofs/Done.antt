@@ -5,7 +5,7 @@ use mathlib.Core.Bool.{Bool}
 use mathlib.Core.List.{List, [], ◌∷◌}
 use lib.ListN.{length}
 use Rattle.definition.specs.declared.Position.{Position}
-use Rattle.definition.specs.Rows.{Row, Table, Store}
+use Rattle.definition.specs.Rows.{Table, Store}
 use Rattle.definition.specs.Event.{Event}
 use Rattle.definition.specs.Look.{one_if, look, kept_name, name_row}
 use Rattle.definition.specs.Change.{entered}
@@ -16,6 +16,9 @@ use Rattle.plan.specs.After.{move_of, applied}
 use Rattle.payload.specs.Payload.{made_in, charge_in}
 use Rattle.payload.proofs.PayloadLaw.{charge_law, made_law}
 use Rattle.fill.specs.Fill.{texts_of}
+use Rattle.std.specs.Prelude.{Option}
+use Rattle.tables.specs.declared.OpenedName.{OpenedName}
+use Rattle.tables.specs.Whole.{opens}
 use Rattle.apply.specs.Applied.{rows_of, applied_in}
 use Rattle.arena.specs.declared.Written.{Written}
 use Rattle.arena.specs.Storing.{Storable, Stored}
@@ -54,15 +57,17 @@ module _ (p : Position) (a b c d f h i j k o y r : Table) (tx : List ℕ) (v : P
     unfolding look
     texts_are = W'.by_key_lem ∙ F.texts_eq p a b c d f h i j k o y r tx e q Z A.within A.form A.differ A.plan
 
-    pub tables_done : (ts : List Table) (nl : ℕ) (row : Row) → row ≡ name_row (kept_name v.tag v.name) → nl ≡ length (kept_name v.tag v.name)
-        → ts ≡ applied_in t' v.tag (move_of v.kind) nl row rows q a st' c d f h i j ms' o y r
-        → record { tables = ts; text = tx' } ≡ lent_after x (afterwards s e q)
+    -- An element's own name, where it opens.
+    abbrev named : Parsed → Option OpenedName
+    named v = opens (move_of v.kind) (length (kept_name v.tag v.name)) (name_row (kept_name v.tag v.name))
+
+    pub tables_done : (ts : List Table) (o' : Option OpenedName) → o' ≡ named v → ts ≡ applied_in t' v.tag o' rows q a st' c d f h i j ms' o y r → record { tables = ts; text = tx' } ≡ lent_after x (afterwards s e q)
     unfolding lent_after afterwards parsed_of look
-    tables_done ts nl row er en et =
+    tables_done ts o' eo et =
         let T = F.tables_after p a b c d f h i j k o y r tx e q Z A.within A.form A.differ A.plan A.first A.long st' ms' tx' t' w W' in
         let z : ts ≡ over_all (applied (move_of e.kind) (look s e) q (entered (look s e) s.numbers)).tables x.tables =
-        et ∙ (λ m. applied_in (texts_are m) (A.parsed m).tag (move_of (A.parsed m).kind) (en m) (er m) rows q a st' c d f h i j ms' o y r)
-        ∙ (λ m. applied_in (texts_of (look s e).base (look s e).fields) (parsed_of e).tag (move_of (parsed_of e).kind) (length (kept_name (A.parsed m).tag (A.parsed m).name)) (name_row (kept_name (A.parsed m).tag (A.parsed m).name)) rows q a st' c d f h i j ms' o y r)
+        et ∙ (λ m. applied_in (texts_are m) (A.parsed m).tag (eo m) rows q a st' c d f h i j ms' o y r)
+        ∙ (λ m. applied_in (texts_of (look s e).base (look s e).fields) (parsed_of e).tag (named (A.parsed m)) rows q a st' c d f h i j ms' o y r)
         ∙ T in
         λ m. record { tables = z m; text = F.text_now p a b c d f h i j k o y r tx e q Z A.within A.form A.differ A.plan A.first A.long st' ms' tx' t' w W' m }
 

@@ -1,7 +1,7 @@
 -- An accepted event: everything that is written has its place.
 use Prim.Native.Nat.{ℕ, zero, suc, ◌+◌, ◌-◌, ◌≤◌, ◌<◌}
 use mathlib.Core.Path.{◌≡◌, refl, sym, ap, ap₂, ◌∙◌, subst}
-use mathlib.Core.Bool.{Bool, true, false, ◌&&◌}
+use mathlib.Core.Bool.{Bool, true, ◌&&◌}
 use mathlib.Core.List.{List, [], ◌∷◌, ◌++◌, map, append_assoc}
 use native.Mathlib.Omega.{arith}
 use lib.Dec.{leb}
@@ -24,22 +24,23 @@ use Rattle.definition.proofs.Base as D
 use Rattle.definition.proofs.Places.{Fits}
 use Rattle.plain.proofs.PlainLaw as Plain
 use Rattle.definition.specs.Reader.{over, over_all, accept, decided, long_enough}
-use Rattle.definition.specs.Change.{on_table, open_region_row, without_last}
+use Rattle.definition.specs.Change.{on_table, without_last}
 use Rattle.payload.specs.Laid.{laid}
 use Rattle.whole.specs.After.{opened_by, position_by, InRange}
-use Rattle.fill.specs.Fill.{is_words}
 use Rattle.texts.proofs.LookLaw.{fields_placed}
 use Rattle.apply.specs.Applied.{rows_of, applied_in}
-use Rattle.apply.proofs.Wordless.{Quiet, wordless}
+use Rattle.apply.proofs.Wordless.{Unworded, wordless}
+use Rattle.std.proofs.lemmas.Option.{IfSome_then}
+use Rattle.arena.specs.Storing.{owner_of}
+use Rattle.tables.specs.Whole.{opens}
 use Rattle.definition.specs.Reader.{position_of, rows_in}
 use Rattle.definition.specs.Look.{one_if}
-use Rattle.definition.proofs.Changes.{alter_length}
 use Rattle.definition.proofs.Finds.{refs_length}
 use Rattle.definition.proofs.Lending.{chart_there}
 use Rattle.payload.proofs.PayloadLaw.{made_law}
 use Rattle.plan.proofs.Fifteen.{transitions_count, regions_count, entries_count, invokes_count, datums_count, parameters_count}
 use Rattle.plan.specs.After.{transitions_after, regions_after, entries_after, invokes_after, datums_after, parameters_after}
-use Rattle.plan.specs.After.{applied, move_of, moved, chart_after, states_after, opened_after, open_regions_after, added_if}
+use Rattle.plan.specs.After.{applied, move_of, moved, chart_after, state_after, states_after, opened_after, open_regions_after, open_region_of, added_if}
 use Rattle.plan.specs.Decided.{limited_p, decided_p}
 use Rattle.planfacts.proofs.FactsOf.{decided_by_plan}
 use Rattle.kept.proofs.RulesKept.{accepted_kept}
@@ -52,13 +53,13 @@ use Rattle.plan.specs.declared.Plan.{Plan}
 use Rattle.plan.specs.Plan.{planned}
 use Rattle.plan.specs.Plans.{plan_of}
 use Rattle.plan.specs.After.{members_after}
-use Rattle.plan.specs.Decided.{one_unless, members_added, counts_after, stays_within}
+use Rattle.plan.specs.Decided.{one_there, members_added, counts_after, stays_within}
 use Rattle.plan.proofs.Fifteen.{states_entered}
 use Rattle.plan.specs.Seen.{seen}
 use Rattle.plan.specs.Heard.{heard}
 use Rattle.plan.specs.Plans.{plan_by}
 use Rattle.plan.specs.After.{member_after}
-use Rattle.plan.proofs.Fifteen.{all_members, added_length}
+use Rattle.plan.proofs.Fifteen.{all_members, added_length, altered_length}
 use Rattle.fill.specs.Fill.{texts_of}
 use Rattle.wordlists.specs.Words.{set_all}
 use Rattle.tables.proofs.Clean.{members_size, over_take, over_over}
@@ -191,7 +192,7 @@ module _ (p : Position) (a b c d f h i j k o y r : Table) (tx : List ℕ) (e : E
 
       begins : (e.kind ≡ 3 → ⊥) → Listed g (heard l) q
       unfolding plan_of heard look
-      begins z = listed (seen n l) (heard l) e.kind (low e.kind kind_le z) q plan
+      begins z = listed (seen n l) (heard l) e.kind g (low e.kind kind_le z) q plan
         where
           low : (m : ℕ) → m ≤ 3 → (m ≡ 3 → ⊥) → m ≤ 2
           low zero h w = omega arith
@@ -202,7 +203,7 @@ module _ (p : Position) (a b c d f h i j k o y r : Table) (tx : List ℕ) (e : E
 
       ends : e.kind ≡ 3 → Unlisted q
       unfolding plan_of heard look
-      ends z = unlisted (seen n l) (heard l) 0 q (sym (ap (λ (m : ℕ). plan_by m (seen n l) (heard l)) z) ∙ plan)
+      ends z = unlisted (seen n l) (heard l) 0 g q (sym (ap (λ (m : ℕ). plan_by m g (seen n l) (heard l)) z) ∙ plan)
 
       abbrev w : List Row
       w = word_rows_of g T t q.members.words
@@ -213,16 +214,16 @@ module _ (p : Position) (a b c d f h i j k o y r : Table) (tx : List ℕ) (e : E
       abbrev skip : ℕ
       skip = skip_of e.kind g
 
-      pub listed_is : listed_members l q p.members k ≡ (take p.members k ++ w) ++ map (M.member_row 6 q.members.owner) (drop skip (resolve T (name_cells (table_of n 1)) pieces).refs)
+      pub listed_is : listed_members l q p.members k ≡ (take p.members k ++ w) ++ map (M.member_row 6 (owner_of q.members.targets)) (drop skip (resolve T (name_cells (table_of n 1)) pieces).refs)
       listed_is = members_listed s e form differ inside q (take p.members k) begins ends
 
-      size_listed : length (listed_members l q p.members k) + one_unless q.members.one.list + one_unless q.members.two.list ≡ length (table_of n 8) + members_added l q.members
+      size_listed : length (listed_members l q p.members k) + one_there q.members.one + one_there q.members.two ≡ length (table_of n 8) + members_added l q.members
       unfolding members_after store_of taken counts
       size_listed =
           sym (omega (arith, members_size q.members.two (member_after q.members.one (listed_members l q p.members k)), members_size q.members.one (listed_members l q p.members k)))
           ∙ all_members l q.members (table_of n 8)
 
-      pub listed_fits : length (listed_members l q p.members k) + one_unless q.members.one.list + one_unless q.members.two.list ≤ 4096
+      pub listed_fits : length (listed_members l q p.members k) + one_there q.members.one + one_there q.members.two ≤ 4096
       unfolding counts_after chart_limits
       listed_fits = let z : length (table_of n 8) + members_added l q.members ≤ 4096 = row_within 8 (omega arith) in omega (arith, size_listed, z)
 
@@ -232,10 +233,10 @@ module _ (p : Position) (a b c d f h i j k o y r : Table) (tx : List ℕ) (e : E
           omega (
             arith,
             ap length listed_is,
-            length-append (take p.members k ++ w) (map (M.member_row 6 q.members.owner) (drop skip rs)),
+            length-append (take p.members k ++ w) (map (M.member_row 6 (owner_of q.members.targets)) (drop skip rs)),
             length-append (take p.members k) w,
             members_are',
-            length-map (drop skip rs) (M.member_row 6 q.members.owner),
+            length-map (drop skip rs) (M.member_row 6 (owner_of q.members.targets)),
             length-drop skip rs,
             refs_length T (name_cells (table_of n 1)) pieces,
             length-drop skip pieces,
@@ -339,7 +340,7 @@ module _ (p : Position) (a b c d f h i j k o y r : Table) (tx : List ℕ) (e : E
 
           abbrev Named : List ℕ → List ℕ → Type 0
           Named A X =
-              NamesWritten b (set_all k p.members (word_rows_of g A X q.members.words)) A p.states (p.members + length (word_rows_of g A X q.members.words)) q.members.owner skip (pieces_in e.kind g A X) st' ms' z.states z.members
+              NamesWritten b (set_all k p.members (word_rows_of g A X q.members.words)) A p.states (p.members + length (word_rows_of g A X q.members.words)) (owner_of q.members.targets) skip (pieces_in e.kind g A X) st' ms' z.states z.members
 
           named : Named T t
           unfolding parsed_of
@@ -369,7 +370,7 @@ module _ (p : Position) (a b c d f h i j k o y r : Table) (tx : List ℕ) (e : E
           unfolding store_of taken counts
           members_now =
               named.members
-              ∙ ap (λ (v : Table). over (v ++ map (M.member_row 6 q.members.owner) (drop skip (resolve T (name_cells (table_of n 1)) pieces).refs)) (set_all k p.members w)) words_taken_lem
+              ∙ ap (λ (v : Table). over (v ++ map (M.member_row 6 (owner_of q.members.targets)) (drop skip (resolve T (name_cells (table_of n 1)) pieces).refs)) (set_all k p.members w)) words_taken_lem
               ∙ ap₂ over (sym listed_is) words_over ∙ over_over L (take p.members k ++ w) k (omega (arith, words_size, lengths_listed))
 
           pub listed_now : z.members ≡ length L
@@ -382,7 +383,7 @@ module _ (p : Position) (a b c d f h i j k o y r : Table) (tx : List ℕ) (e : E
 
           A : Altered q (length l.known) (length (table_of n 2)) (length (table_of n 4)) (length (table_of n 5)) (length (table_of n 6)) (length (table_of n 11))
           unfolding plan_of look
-          A = altered (seen n l) (heard l) _ _ _ _ _ _ (in_use limits01 s e Z.rules) e.kind q plan
+          A = altered (seen n l) (heard l) _ _ _ _ _ _ (in_use limits01 s e Z.rules) e.kind g q plan
 
           known_le : length l.known ≤ length E
           known_le =
@@ -416,39 +417,35 @@ module _ (p : Position) (a b c d f h i j k o y r : Table) (tx : List ℕ) (e : E
           unfolding applied opened_after entered store_of taken counts on_table
           opened_room v = omega (arith, G.opened, moved_length m (l.tag ∷ q.opened.state.0 ∷ q.opened.transition.0 ∷ l.name_length ∷ 0 ∷ 0 ∷ 0 ∷ 0 ∷ []) (take p.opened o) v, taken_length p.opened 32 o Z.opened)
 
-          regions_after_lem : q.pending.kept + one_unless q.pending.tag + one_unless q.pending.by ≤ 64
+          regions_after_lem : q.pending.kept + one_there q.pending.one + one_there q.pending.two ≤ 64
           unfolding applied open_regions_after entered store_of taken counts on_table
           regions_after_lem =
               let kl : length (take q.pending.kept (take p.open_regions r)) ≡ q.pending.kept = length-take-le q.pending.kept (take p.open_regions r) A.kept in
               omega (
                 arith,
                 G.open_regions_lem,
-                added_length q.pending.by (open_region_row q.pending.inner.0 q.pending.by) (added_if q.pending.tag (open_region_row q.pending.region.0 q.pending.tag) (take q.pending.kept (take p.open_regions r))),
-                added_length q.pending.tag (open_region_row q.pending.region.0 q.pending.tag) (take q.pending.kept (take p.open_regions r)),
+                added_length open_region_of q.pending.two (added_if open_region_of q.pending.one (take q.pending.kept (take p.open_regions r))),
+                added_length open_region_of q.pending.one (take q.pending.kept (take p.open_regions r)),
                 kl,
               )
 
-          wordless_at : (v : ℕ) → (Quiet q → v ≡ 0) → is_words g v ≡ false
+          U : Unworded g q
           unfolding plan_of heard look
-          wordless_at v z' = wordless (seen n l) (heard l) e.kind q plan v z'
+          U = wordless g (seen n l) (heard l) e.kind q plan
 
           pub fits : C.Fits l q rows m z.states p.members p.open_regions a st' c d f h i j k o y r
           unfolding counts_after chart_limits store_of taken counts look
           fits =
               record {
                 placed = fields_placed g u is;
-                chart = (Z.chart.1, A.chart);
-                states = (omega (arith, count_now, ap length states_now, over_long E b), omega (arith, A.states, known_le, count_now));
-                state_texts = λ v w'. wordless_at v (λ x'. omega (arith, w', x'.state));
-                transitions = (omega (arith, row_within 2 (omega arith), taken_length p.transitions 512 c Z.transitions, Z.transitions.1), omega (arith, A.transitions, taken_length p.transitions 512 c Z.transitions));
-                transition_texts = λ v w'. wordless_at v (λ x'. omega (arith, w', x'.transition));
+                wordless = U;
+                chart = Z.chart.1;
+                states = (omega (arith, count_now, ap length states_now, over_long E b), IfSome_then q.states A.states (λ x' v. omega (arith, v, known_le, count_now)));
+                transitions = (omega (arith, row_within 2 (omega arith), taken_length p.transitions 512 c Z.transitions, Z.transitions.1), IfSome_then q.transitions.altered A.transitions (λ x' v. omega (arith, v, taken_length p.transitions 512 c Z.transitions)));
                 regions = omega (arith, row_within 3 (omega arith), taken_length p.regions 512 d Z.regions, Z.regions.1);
-                entries = (omega (arith, row_within 4 (omega arith), taken_length p.entries 2048 f Z.entries, Z.entries.1), omega (arith, A.entries, taken_length p.entries 2048 f Z.entries));
-                entry_texts = wordless_at q.entries.shape (λ x'. x'.entry);
-                invokes = (omega (arith, row_within 5 (omega arith), taken_length p.invokes 64 h Z.invokes, Z.invokes.1), omega (arith, A.invokes, taken_length p.invokes 64 h Z.invokes));
-                invoke_texts = λ v. wordless_at 1 (λ x'. absurd (v x'.invoke));
-                datums = (omega (arith, row_within 6 (omega arith), taken_length p.datums 256 i Z.datums, Z.datums.1), omega (arith, A.datums, taken_length p.datums 256 i Z.datums));
-                datum_texts = wordless_at q.datums.shape (λ x'. x'.datum);
+                entries = (omega (arith, row_within 4 (omega arith), taken_length p.entries 2048 f Z.entries, Z.entries.1), IfSome_then q.entries.altered A.entries (λ x' v. omega (arith, v, taken_length p.entries 2048 f Z.entries)));
+                invokes = (omega (arith, row_within 5 (omega arith), taken_length p.invokes 64 h Z.invokes, Z.invokes.1), IfSome_then q.invokes.altered A.invokes (λ x' v. omega (arith, v, taken_length p.invokes 64 h Z.invokes)));
+                datums = (omega (arith, row_within 6 (omega arith), taken_length p.datums 256 i Z.datums, Z.datums.1), IfSome_then q.datums.altered A.datums (λ x' v. omega (arith, v, taken_length p.datums 256 i Z.datums)));
                 parameters = omega (arith, row_within 7 (omega arith), taken_length p.parameters 512 j Z.parameters, Z.parameters.1);
                 listed_members = listed_now;
                 members = omega (arith, listed_fits, Z.members.1);
@@ -459,10 +456,10 @@ module _ (p : Position) (a b c d f h i j k o y r : Table) (tx : List ℕ) (e : E
               }
 
           -- THE TABLES AFTER AN ACCEPTED EVENT.
-          pub tables_after : applied_in (texts_of l.base l.fields) l.tag m l.name_length l.name rows q a st' c d f h i j ms' o y r ≡ over_all after.tables x.tables
+          pub tables_after : applied_in (texts_of l.base l.fields) l.tag (opens m l.name_length l.name) rows q a st' c d f h i j ms' o y r ≡ over_all after.tables x.tables
           unfolding store_of taken counts entered on_table
           tables_after =
-              ap (λ (v : Table). applied_in (texts_of l.base l.fields) l.tag m l.name_length l.name rows q a st' c d f h i j v o y r) members_now
+              ap (λ (v : Table). applied_in (texts_of l.base l.fields) l.tag (opens m l.name_length l.name) rows q a st' c d f h i j v o y r) members_now
               ∙ C.applied_clean l q rows m z.states p.members p.open_regions a st' c d f h i j k o y r (entered l n) tables_entered fits
               ∙ states_beneath
             where
@@ -479,7 +476,7 @@ module _ (p : Position) (a b c d f h i j k o y r : Table) (tx : List ℕ) (e : E
                   (ap (over (states_after l q.states E)) states_now ∙ over_over (states_after l q.states E) E b (omega (arith, states_altered)))
                 where
                   states_altered : length (states_after l q.states E) ≡ length E
-                  states_altered = unfold states_after in alter_length q.states.at.0 _ E
+                  states_altered = unfold states_after in altered_length (λ x. x.at.0) (state_after l) q.states E
 
           -- ---- the text and the position
 
@@ -514,23 +511,23 @@ module _ (p : Position) (a b c d f h i j k o y r : Table) (tx : List ℕ) (e : E
           pub position_now : (made : Bool) → made ≡ made_in (parsed_of e) → position_by p q e.kind made l.charge z ≡ position_of (record { numbers = after; text = text_after s e })
           unfolding position_by position_of rows_in applied entered store_of taken counts on_table members_after open_regions_after
           position_now made em =
-              let states : z.states ≡ length (states_after l q.states E) = count_now ∙ sym (unfold states_after in alter_length q.states.at.0 _ E) in
-              let transitions : p.transitions + one_unless q.transitions.number.0 ≡ length (transitions_after l q.transitions (take p.transitions c)) = grown p.transitions 512 _ _ c Z.transitions (transitions_count limits01 l q n m F.twelve) in
-              let regions : p.regions + one_unless q.regions.one.0 + one_unless q.regions.two.0 ≡ length (regions_after q.regions (take p.regions d)) =
+              let states : z.states ≡ length (states_after l q.states E) = count_now ∙ sym (unfold states_after in altered_length (λ x. x.at.0) (state_after l) q.states E) in
+              let transitions : p.transitions + one_there q.transitions.added ≡ length (transitions_after l q.transitions (take p.transitions c)) = grown p.transitions 512 _ _ c Z.transitions (transitions_count limits01 l q n m F.twelve) in
+              let regions : p.regions + one_there q.regions.one + one_there q.regions.two ≡ length (regions_after q.regions (take p.regions d)) =
               omega (arith, regions_count limits01 l q n m F.twelve, taken_length p.regions 512 d Z.regions) in
-              let entries : p.entries + one_unless q.entries.kind ≡ length (entries_after l q.entries (take p.entries f)) = grown p.entries 2048 _ _ f Z.entries (entries_count limits01 l q n m F.twelve) in
-              let invokes : p.invokes + one_unless q.invokes.added ≡ length (invokes_after l q.invokes (take p.invokes h)) = grown p.invokes 64 _ _ h Z.invokes (invokes_count limits01 l q n m F.twelve) in
-              let datums : p.datums + one_unless q.datums.added ≡ length (datums_after l q.datums (take p.datums i)) = grown p.datums 256 _ _ i Z.datums (datums_count limits01 l q n m F.twelve) in
-              let parameters : p.parameters + one_unless q.parameters.kind ≡ length (parameters_after l q.parameters (take p.parameters j)) = grown p.parameters 512 _ _ j Z.parameters (parameters_count limits01 l q n m F.twelve) in
-              let members : z.members + one_unless q.members.one.list + one_unless q.members.two.list ≡ length (member_after q.members.two (member_after q.members.one L)) =
+              let entries : p.entries + one_there q.entries.added ≡ length (entries_after l q.entries (take p.entries f)) = grown p.entries 2048 _ _ f Z.entries (entries_count limits01 l q n m F.twelve) in
+              let invokes : p.invokes + one_there q.invokes.added ≡ length (invokes_after l q.invokes (take p.invokes h)) = grown p.invokes 64 _ _ h Z.invokes (invokes_count limits01 l q n m F.twelve) in
+              let datums : p.datums + one_there q.datums.added ≡ length (datums_after l q.datums (take p.datums i)) = grown p.datums 256 _ _ i Z.datums (datums_count limits01 l q n m F.twelve) in
+              let parameters : p.parameters + one_there q.parameters ≡ length (parameters_after l q.parameters (take p.parameters j)) = grown p.parameters 512 _ _ j Z.parameters (parameters_count limits01 l q n m F.twelve) in
+              let members : z.members + one_there q.members.one + one_there q.members.two ≡ length (member_after q.members.two (member_after q.members.one L)) =
               omega (arith, listed_now, members_size q.members.two (member_after q.members.one L), members_size q.members.one L) in
-              let pending : q.pending.kept + one_unless q.pending.tag + one_unless q.pending.by
-              ≡ length (added_if q.pending.by (open_region_row q.pending.inner.0 q.pending.by) (added_if q.pending.tag (open_region_row q.pending.region.0 q.pending.tag) (take q.pending.kept (take p.open_regions r)))) =
+              let pending : q.pending.kept + one_there q.pending.one + one_there q.pending.two
+              ≡ length (added_if open_region_of q.pending.two (added_if open_region_of q.pending.one (take q.pending.kept (take p.open_regions r)))) =
               omega (
                 arith,
                 length-take-le q.pending.kept (take p.open_regions r) A.kept,
-                added_length q.pending.by (open_region_row q.pending.inner.0 q.pending.by) (added_if q.pending.tag (open_region_row q.pending.region.0 q.pending.tag) (take q.pending.kept (take p.open_regions r))),
-                added_length q.pending.tag (open_region_row q.pending.region.0 q.pending.tag) (take q.pending.kept (take p.open_regions r)),
+                added_length open_region_of q.pending.two (added_if open_region_of q.pending.one (take q.pending.kept (take p.open_regions r))),
+                added_length open_region_of q.pending.one (take q.pending.kept (take p.open_regions r)),
               ) in
               let names : p.names + one_if made ≡ p.names + l.generated = ap (λ (v : Bool). p.names + one_if v) em ∙ ap (λ (v : ℕ). p.names + v) (made_law s e) in
               λ v.

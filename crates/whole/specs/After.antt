@@ -3,7 +3,7 @@ use Rattle.std.specs.Prelude.{ℕ, zero, suc, ◌+◌, ◌-◌, ◌<◌, ◌≤�
 use Rattle.definition.specs.declared.Position.{Position}
 use Rattle.definition.specs.Look.{one_if}
 use Rattle.plan.specs.declared.Plan.{Plan}
-use Rattle.plan.specs.Decided.{one_unless}
+use Rattle.plan.specs.Decided.{one_there}
 use Rattle.arena.specs.declared.Written.{Written}
 
 -- One more is open, as many, or one less.
@@ -15,19 +15,19 @@ opened_by (suc (suc (suc k))) n = n - 1
 
 -- k: the event's kind; w: what was written of its texts and names; g: whether a name was generated; c: its charge.
 unfoldable pub position_by : Position → Plan → ℕ → Bool → ℕ → Written → Position
-unfolding opened_by one_unless one_if
+unfolding opened_by one_there one_if
 position_by p q k g c w =
     record {
       opened = opened_by k p.opened;
       states = w.states;
-      transitions = p.transitions + one_unless q.transitions.number.0;
-      regions = p.regions + one_unless q.regions.one.0 + one_unless q.regions.two.0;
-      entries = p.entries + one_unless q.entries.kind;
-      invokes = p.invokes + one_unless q.invokes.added;
-      datums = p.datums + one_unless q.datums.added;
-      parameters = p.parameters + one_unless q.parameters.kind;
-      members = w.members + one_unless q.members.one.list + one_unless q.members.two.list;
-      open_regions = q.pending.kept + one_unless q.pending.tag + one_unless q.pending.by;
+      transitions = p.transitions + one_there q.transitions.added;
+      regions = p.regions + one_there q.regions.one + one_there q.regions.two;
+      entries = p.entries + one_there q.entries.added;
+      invokes = p.invokes + one_there q.invokes.added;
+      datums = p.datums + one_there q.datums.added;
+      parameters = p.parameters + one_there q.parameters;
+      members = w.members + one_there q.members.one + one_there q.members.two;
+      open_regions = q.pending.kept + one_there q.pending.one + one_there q.pending.two;
       current = q.counters.current;
       ids = q.counters.ids;
       docs = q.counters.docs;

@@ -12,6 +12,8 @@ use Rattle.definition.specs.Shapes.{word, Filling, shape_at, shapes_in, shapes_b
 use Rattle.definition.specs.Look.{Look, span_of, shift}
 use Rattle.definition.specs.Change.{field_in, field_words, cell_of, filled_by}
 use Rattle.definition.specs.Reader.{over}
+use Rattle.std.specs.Prelude.{Some}
+use Rattle.plan.specs.declared.TargetPlan.{TargetPlan}
 use Rattle.plan.specs.After.{member_row, member_rows, word_row, word_rows, targets_after}
 use Rattle.plan.proofs.Over.{over_start, over_add}
 use Rattle.words.specs.Next.{parted_by}
@@ -79,6 +81,6 @@ unfolding member_rows
 rows_map f k o h [] = refl
 rows_map f k o h (v ∷ vs) = ap₂ (λ (x : Row) (y : Table). x ∷ y) (h v) (rows_map f k o h vs)
 
-pub targets_rows : (l : Look) (o k : ℕ) (f : ℕ → Row) → ((v : ℕ) → f v ≡ member_row 6 (suc o) v) → (u : Table) → u ++ map f (drop k l.refs) ≡ targets_after l (suc o) k u
+pub targets_rows : (l : Look) (p : TargetPlan) (f : ℕ → Row) → ((v : ℕ) → f v ≡ member_row 6 p.owner v) → (u : Table) → u ++ map f (drop p.skip l.refs) ≡ targets_after l (Some p) u
 unfolding targets_after
-targets_rows l o k f h u = ap (λ (z : Table). u ++ z) (rows_map f 6 (suc o) h (drop k l.refs))
+targets_rows l p f h u = ap (λ (z : Table). u ++ z) (rows_map f 6 p.owner h (drop p.skip l.refs))

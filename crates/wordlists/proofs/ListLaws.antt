@@ -1,26 +1,26 @@
 -- For the proofs of the functions on words.
 use Prim.Native.Nat.{ℕ, zero, suc, ◌+◌, ◌-◌, ◌≤◌, ◌<◌}
 use mathlib.Core.Path.{◌≡◌, refl, sym, ap, ap₂, ◌∙◌}
-use mathlib.Core.Bool.{Bool, true, false}
+use mathlib.Core.Bool.{Bool}
 use mathlib.Core.List.{List, [], ◌∷◌}
 use native.Mathlib.Omega.{arith}
 use lib.ListN.{length, take, drop, length-drop, length-take, drop_of_length-le}
-use borrow.Author.Tests.{eq-eqb, ne_eqb}
 use Rattle.definition.specs.Text.{words_by, pieces, emit, bytes_at}
-use Rattle.definition.specs.Rows.{Row, Table, Cell, cell_at, text_at, text_from}
+use Rattle.definition.specs.Rows.{Table, Cell, text_at, text_from}
+use Rattle.definition.specs.Codes.{list_number}
 use Rattle.plan.specs.declared.MemberPlan.{MemberPlan}
 use Rattle.fill.specs.Fill.{cell, as_cell}
 use Rattle.fill.specs.declared.TextCell.{TextCell}
-use Rattle.wordlists.specs.Words.{set_all, list_cells, word_members, cells_at, word_cells, word_rows_of}
+use Rattle.wordlists.specs.Words.{set_all, list_cells, word_members, cells_at}
 
 none_of : (e : Bool) (a : ℕ) → list_cells e a [] ≡ []
 unfolding list_cells words_by pieces emit
 none_of e a = refl
 
 -- Nothing is written where there is no word.
-pub nothing_added : (used : ℕ) (ms : Table) (p : MemberPlan) (cs : List Cell) → cs ≡ [] → (used ≡ used + length cs) × (ms ≡ set_all ms used (word_members p.list p.owner cs))
+pub nothing_added : (used : ℕ) (ms : Table) (p : MemberPlan) (cs : List Cell) → cs ≡ [] → (used ≡ used + length cs) × (ms ≡ set_all ms used (word_members (list_number p.list) p.owner cs))
 unfolding set_all word_members
-nothing_added used ms p cs e = (omega (arith, ap length e), sym (ap (λ (x : List Cell). set_all ms used (word_members p.list p.owner x)) e))
+nothing_added used ms p cs e = (omega (arith, ap length e), sym (ap (λ (x : List Cell). set_all ms used (word_members (list_number p.list) p.owner x)) e))
 
 module _ (e : Bool) (text : List ℕ) (c : TextCell) where
   pub no_text : c.at ≡ 0 → cells_at e text (as_cell c) ≡ []
@@ -64,42 +64,11 @@ module _ (e : Bool) (text : List ℕ) (c : TextCell) where
       let w : v ≡ take c.len (drop (c.at - 1) text) = ev ∙ ap (λ (x : ℕ). text_from text x c.len) p in
       omega (arith, z, l, s, ap length w, length-take c.len (drop (c.at - 1) text), length-drop (c.at - 1) text)
 
-pub as_cells : (used r : ℕ) (ms ms' : Table) (p : MemberPlan) (cs ds : List Cell) → cs ≡ ds → (r ≡ used + length cs) × (ms' ≡ set_all ms used (word_members p.list p.owner cs))
-    → (r ≡ used + length ds) × (ms' ≡ set_all ms used (word_members p.list p.owner ds))
-as_cells used r ms ms' p cs ds e h = (h.0 ∙ ap (λ (x : List Cell). used + length x) e, h.1 ∙ ap (λ (x : List Cell). set_all ms used (word_members p.list p.owner x)) e)
+pub as_cells : (used r : ℕ) (ms ms' : Table) (p : MemberPlan) (cs ds : List Cell) → cs ≡ ds → (r ≡ used + length cs) × (ms' ≡ set_all ms used (word_members (list_number p.list) p.owner cs))
+    → (r ≡ used + length ds) × (ms' ≡ set_all ms used (word_members (list_number p.list) p.owner ds))
+as_cells used r ms ms' p cs ds e h = (h.0 ∙ ap (λ (x : List Cell). used + length x) e, h.1 ∙ ap (λ (x : List Cell). set_all ms used (word_members (list_number p.list) p.owner x)) e)
 
--- ---- by the element
-
-module _ (g : ℕ) (text t : List ℕ) (p : MemberPlan) where
-  pub no_list : (used : ℕ) (ms : Table) → p.list ≡ 0 → (used ≡ used + length (word_rows_of g text t p)) × (ms ≡ set_all ms used (word_rows_of g text t p))
-  unfolding word_rows_of set_all
-  no_list used ms z =
-      let e : word_rows_of g text t p ≡ [] = ap (λ (k : ℕ). elim k as (λ b. List Row) [ zero ↦ [] | suc i ↦ word_members p.list p.owner (word_cells g text t) ]) z in
-      (omega (arith, ap length e), sym (ap (set_all ms used) e))
-
-  members_length : (k o : ℕ) (cs : List Cell) → length (word_members k o cs) ≡ length cs
-  unfolding word_members
-  members_length k o [] = refl
-  members_length k o (c ∷ cs) = ap suc (members_length k o cs)
-
-  rows_some : (p.list ≡ 0 → ⊥) → word_rows_of g text t p ≡ word_members p.list p.owner (word_cells g text t)
-  unfolding word_rows_of
-  rows_some h = at p.list h
-    where
-      at : (x : ℕ) → (x ≡ 0 → ⊥) → elim x as (λ b. List Row) [ zero ↦ [] | suc i ↦ word_members p.list p.owner (word_cells g text t) ] ≡ word_members p.list p.owner (word_cells g text t)
-      at zero h = absurd (h refl)
-      at (suc x) h = refl
-
-  pub words_written : (used r : ℕ) (ms ms' : Table) (cs : List Cell) → (p.list ≡ 0 → ⊥) → cs ≡ word_cells g text t → (r ≡ used + length cs) × (ms' ≡ set_all ms used (word_members p.list p.owner cs))
-      → (r ≡ used + length (word_rows_of g text t p)) × (ms' ≡ set_all ms used (word_rows_of g text t p))
-  words_written used r ms ms' cs h ec e =
-      let z : word_members p.list p.owner cs ≡ word_rows_of g text t p = ap (word_members p.list p.owner) ec ∙ sym (rows_some h) in
-      (omega (arith, e.0, sym (members_length p.list p.owner cs), ap length z), e.1 ∙ ap (set_all ms used) z)
-
-  pub cells_transition : (c : TextCell) → g ≡ 16 → as_cell c ≡ cell_at t 28 → cells_at true text (as_cell c) ≡ word_cells g text t
-  unfolding word_cells
-  cells_transition c q e = ap (cells_at true text) e ∙ sym (rw (eq-eqb g 16 q, word_cells))
-
-  pub cells_other : (c : TextCell) → (g ≡ 16 → ⊥) → as_cell c ≡ cell_at t 24 → cells_at false text (as_cell c) ≡ word_cells g text t
-  unfolding word_cells
-  cells_other c q e = ap (cells_at false text) e ∙ sym (rw (ne_eqb g 16 q, word_cells))
+pub members_length : (k o : ℕ) (cs : List Cell) → length (word_members k o cs) ≡ length cs
+unfolding word_members
+members_length k o [] = refl
+members_length k o (c ∷ cs) = ap suc (members_length k o cs)

@@ -1,7 +1,8 @@
 -- The words of a value as rows of members.
-use Rattle.std.specs.Prelude.{ℕ, zero, suc, ◌+◌, Bool, true, false, List, [], ◌∷◌, map, eqb, length, set}
+use Rattle.std.specs.Prelude.{ℕ, zero, suc, ◌+◌, Bool, true, false, Option, Some, None, List, [], ◌∷◌, map, eqb, length, set}
 use Rattle.definition.specs.Text.{Piece, words_by, stripped}
 use Rattle.definition.specs.Rows.{Row, Table, Cell, cell_at, text_at}
+use Rattle.definition.specs.Codes.{list_number}
 use Rattle.plan.specs.declared.MemberPlan.{MemberPlan}
 use Rattle.words.specs.Next.{parted_by}
 
@@ -42,6 +43,7 @@ unfoldable pub word_cells : ℕ → List ℕ → List ℕ → List Cell
 unfolding cells_at
 word_cells g text t = elim (eqb g 16) [ true ↦ cells_at true text (cell_at t 28) | false ↦ cells_at false text (cell_at t 24) ]
 
-unfoldable pub word_rows_of : ℕ → List ℕ → List ℕ → MemberPlan → List Row
+unfoldable pub word_rows_of : ℕ → List ℕ → List ℕ → Option MemberPlan → List Row
 unfolding word_cells word_members
-word_rows_of g text t p = elim p.list [ zero ↦ [] | suc k ↦ word_members p.list p.owner (word_cells g text t) ]
+word_rows_of g text t None = []
+word_rows_of g text t (Some p) = word_members (list_number p.list) p.owner (word_cells g text t)

@@ -3,12 +3,13 @@
 #![tactic(auto)]
 
 ghost use Rattle.std.specs.Prelude.{◌≡◌, ◌+◌, ◌≤◌, length};
+ghost use Rattle.definition.specs.Codes.{list_number, tag_number};
 ghost use Rattle.words.specs.Next.{parted_by, next_word};
 ghost use Rattle.fill.specs.Fill.{as_cell};
 ghost use Rattle.wordlists.specs.Words.{set_all, kept, list_cells, word_member, word_members, cells_at, word_rows_of};
 
 use definition::codes::{Key, Tag};
-use fill::TextCell;
+use fill::{TextCell, Texts};
 use plan::MemberPlan;
 use rows::{put, text_from};
 use texts::key_cell;
@@ -34,9 +35,9 @@ fn kept_len(w: &[u8], events: bool) -> usize
 
 #[tactic(auto, unfolding(crate::specs::Words::word_member, fill::specs::Fill::as_cell, fill::specs::Fill::cell))]
 fn word_row(p: MemberPlan, word: TextCell) -> [u32; 8]
-    ensures { result ≡ word_member p.list p.owner (as_cell word) }
+    ensures { result ≡ word_member (list_number p.list) p.owner (as_cell word) }
 {
-    [p.list, p.owner, 0, word.at, word.len, 0, 0, 0]
+    [p.list.number(), p.owner, 0, word.at, word.len, 0, 0, 0]
 }
 
 // The words of a value that lies at `base` in the text, as members of a list, from the row `used` on; where they end.
@@ -50,10 +51,11 @@ fn add_words(
 ) -> usize
     requires { (used ≤ 65535) × (base + length v.now ≤ 65535) }
     ensures value { result ≡ used + length (list_cells events base v.now) }
-    ensures members_after { members.new ≡ set_all members.old used (word_members p.list p.owner (list_cells events base v.now)) }
+    ensures members_after { members.new ≡ set_all members.old used (word_members (list_number p.list) p.owner (list_cells events base v.now)) }
 {
     let mut m = used;
     let mut at = 0;
+    // By place: the iterators over words of events and of states are two types, and a loop over either would be written twice.
     while at < v.len() {
         let next = next_in(v, at, events);
         if next.start == next.end {
@@ -81,7 +83,7 @@ fn add_list(
 ) -> usize
     requires { (used ≤ 65535) × (length text.now ≤ 65535) }
     ensures value { result ≡ used + length (cells_at events text.now (as_cell c)) }
-    ensures members_after { members.new ≡ set_all members.old used (word_members p.list p.owner (cells_at events text.now (as_cell c))) }
+    ensures members_after { members.new ≡ set_all members.old used (word_members (list_number p.list) p.owner (cells_at events text.now (as_cell c))) }
 {
     if c.at == 0 {
         return used;
@@ -94,23 +96,25 @@ fn add_list(
 }
 
 /// The words of an element, from the row `used` on; where they end.
+#[tactic(auto, using(crate::proofs::ListLaws::members_length), unfolding(crate::specs::Words::word_rows_of, crate::specs::Words::word_cells, crate::specs::Words::set_all))]
 pub fn write_words(
     members: &mut [[u32; 8]],
     used: usize,
     text: &[u8],
-    t: &[u32],
-    tag: u32,
-    p: MemberPlan,
+    texts: Texts<'_>,
+    p: Option<MemberPlan>,
 ) -> usize
     requires { (used ≤ 65535) × (length text.now ≤ 65535) }
-    ensures value { result ≡ used + length (word_rows_of tag text.now t.now p) }
-    ensures members_after { members.new ≡ set_all members.old used (word_rows_of tag text.now t.now p) }
+    ensures value { result ≡ used + length (word_rows_of (tag_number texts.entry.tag) text.now texts.entry.cells.now p) }
+    ensures members_after { members.new ≡ set_all members.old used (word_rows_of (tag_number texts.entry.tag) text.now texts.entry.cells.now p) }
 {
-    if p.list == 0 {
+    let Some(words) = p else {
         return used;
+    };
+    if texts.tag == Tag::Transition {
+        let events = key_cell(texts.cells, Key::Event as usize);
+        return add_list(members, used, text, events, words, true);
     }
-    if tag == Tag::TRANSITION {
-        return add_list(members, used, text, key_cell(t, Key::EVENT), p, true);
-    }
-    add_list(members, used, text, key_cell(t, Key::NAMELIST), p, false)
+    let names = key_cell(texts.cells, Key::Namelist as usize);
+    add_list(members, used, text, names, words, false)
 }

@@ -1,20 +1,19 @@
 -- The end of a text: white space that trimming takes, and what an event word loses.
 use mathlib.Core.Path.{◌≡◌, refl, ap, sym, ◌∙◌}
-use mathlib.Core.List.{List, [], ◌∷◌, ◌++◌, map, reverse, reverse-append, reverse-reverse}
+use mathlib.Core.List.{List, [], ◌∷◌, ◌++◌, reverse, reverse-append, reverse-reverse}
 use mathlib.Core.Bool.{Bool, true, false, ◌&&◌}
 use Prim.Native.Nat.{ℕ, suc, ◌+◌, ◌-◌, ◌≤◌, ◌<◌}
 use native.Mathlib.Omega.{arith}
-use lib.Dec.{eqb, ltb, eqb-suc-zero}
-use lib.ListN.{length, get_or, take, drop, length-drop, length-take, drop_of_length-le}
+use lib.Dec.{eqb, eqb-suc-zero}
+use lib.ListN.{length, get_or, take, drop, length-drop, length-take}
 use native.Mathlib.Nat.{zero-add}
 use lib.Seq.{take_all, take-suc, take_at, length-take-le}
-use borrow.Author.Tests.{eq-eqb, ne_eqb, ltb-true, ltb-false}
+use borrow.Author.Tests.{eq-eqb, ne_eqb}
 use Rattle.definition.proofs.Base.{same_length}
-use Rattle.definition.specs.Text.{Piece, Span, same, trimmed, bytes_at, pieces, emit, wildcard, stripped_piece, event_words, words_by, is_space, body_length, leading, trim, strip_last, stripped}
-use Rattle.words.specs.Next.{IsShorter, gap, as_span, next_word, piece_at}
-use Rattle.words.specs.declared.Word.{Word}
+use Rattle.definition.specs.Text.{Span, same, trimmed, bytes_at, is_space, body_length, leading, trim, strip_last, stripped}
+use Rattle.words.specs.Next.{IsShorter, gap, as_span}
 use Rattle.words.specs.declared.Part.{Part}
-use Rattle.words.proofs.Laws.{by, next_inside, next_moves, gap_le, next_none, next_some, next_order, empty_rest}
+use Rattle.words.proofs.Laws.{by, gap_le}
 
 -- ---- trimming
 
@@ -170,69 +169,6 @@ strip_le w = omega (arith, ap length (strip_prefix w), length-take (length (stri
 
 pub star_long : (w : List ℕ) → (length (stripped w) ≡ 1 → ⊥) → same (stripped w) (42 ∷ []) ≡ false
 star_long w h = same_length (stripped w) (42 ∷ []) h
-
--- ---- wildcard
-
--- the event words from a place on
-abbrev pub events_from : List ℕ → ℕ → List Piece
-events_from v at = map stripped_piece (pieces is_space at [] (drop at v))
-
-pub events_all : (v : List ℕ) → wildcard (events_from v 0) ≡ wildcard (event_words v)
-unfolding event_words words_by
-events_all v = refl
-
-pub events_end : (v : List ℕ) (at : ℕ) → length v ≤ at → wildcard (events_from v at) ≡ false
-unfolding pieces emit wildcard
-events_end v at h = rw (drop_of_length-le v h)
-
-module _ (v : List ℕ) (at : ℕ) where
-  abbrev star : Bool
-  star = same (stripped (piece_at v (next_word is_space v at)).word) (42 ∷ [])
-
-  abbrev s : ℕ
-  s = (next_word is_space v at).start
-
-  abbrev e : ℕ
-  e = (next_word is_space v at).end
-
-  some : s < e → (t : Bool) → star ≡ t → wildcard (events_from v at) ≡ elim t [ true ↦ true | false ↦ wildcard (events_from v e) ]
-  unfolding wildcard stripped_piece
-  some h t f =
-      ap (λ (ps : List Piece). wildcard (map stripped_piece ps)) (next_some is_space v at h)
-      ∙ ap (λ (t : Bool). elim t [ true ↦ true | false ↦ wildcard (events_from v e) ]) f
-
-  -- an empty word is no `*`
-  not_empty : e ≤ s → star ≡ false
-  unfolding piece_at
-  not_empty h = star_long _ (λ z. omega (arith, strip_le (take (e - s) (drop s v)), ap length (empty_rest is_space v at h), length-take (e - s) (drop s v)))
-
-  star_here : star ≡ true → wildcard (events_from v at) ≡ true
-  star_here f = by (ltb s e) (λ h. some (ltb-true _ _ h) true f) (λ h. let z : ◌≡◌ {A = Bool} true false = sym f ∙ not_empty (ltb-false _ _ h) in let n : ◌≡◌ {A = ℕ} 0 1 = cc in absurd (omega arith))
-
-  star_next : star ≡ false → wildcard (events_from v e) ≡ wildcard (events_from v at)
-  unfolding wildcard pieces emit
-  star_next f =
-      by (ltb s e) (λ h. sym (some (ltb-true _ _ h) false f))
-      (λ h.
-      let k : e ≤ s = ltb-false _ _ h in
-      let m : e ≡ s = omega (arith, next_order is_space v at) in
-      let z : drop e v ≡ [] = ap (λ (i : ℕ). drop i v) m ∙ empty_rest is_space v at k in
-      ap (λ (l : List ℕ). wildcard (map stripped_piece (pieces is_space e [] l))) z ∙ sym (ap (λ (ps : List Piece). wildcard (map stripped_piece ps)) (next_none is_space v at k)))
-
-  -- the same of a word that code found
-  module _ (w : Word) (same_word : w ≡ next_word is_space v at) where
-    pub word_lies : at < length v → (w.start ≤ w.end) × (w.end ≤ length v) × (at < w.end)
-    word_lies h = rw same_word (next_order is_space v at, next_inside is_space v at (omega arith), next_moves is_space v at h)
-
-    star_of : (r t : Bool) → r ≡ same (stripped (take (w.end - w.start) (drop w.start v))) (42 ∷ []) → r ≡ t → star ≡ t
-    unfolding piece_at
-    star_of r t h k = ap (λ (x : Word). same (stripped (piece_at v x).word) (42 ∷ [])) (sym same_word) ∙ sym h ∙ k
-
-    pub found_star : (r : Bool) → r ≡ same (stripped (take (w.end - w.start) (drop w.start v))) (42 ∷ []) → r ≡ true → wildcard (events_from v at) ≡ true
-    found_star r h k = star_here (star_of r true h k)
-
-    pub found_none : (r : Bool) → r ≡ same (stripped (take (w.end - w.start) (drop w.start v))) (42 ∷ []) → r ≡ false → wildcard (events_from v w.end) ≡ wildcard (events_from v at)
-    found_none r h k = ap (λ (x : Word). wildcard (events_from v x.end)) same_word ∙ star_next (star_of r false h k)
 
 -- ---- the trimmed part lies in the text
 

@@ -1,5 +1,5 @@
 -- The walk from word to word finds the words of the definition.
-use mathlib.Core.Path.{◌≡◌, refl, ap, sym, ◌∙◌}
+use mathlib.Core.Path.{◌≡◌, refl, ap, sym, ◌∙◌, subst}
 use mathlib.Core.List.{List, [], ◌∷◌, ◌++◌, map, append-nil, append_assoc}
 use mathlib.Core.Bool.{Bool, true, false, not}
 use Prim.Native.Nat.{ℕ, zero, suc, ◌+◌, ◌-◌, ◌≤◌, ◌<◌, max}
@@ -12,6 +12,8 @@ use lib.Seq.{drop-cons, drop-drop, length-take-le}
 use borrow.Author.Tests.{ltb-true, ltb-false}
 use Rattle.definition.specs.Text.{Piece, emit, pieces, words_by, is_space, is_separator, stripped_piece, event_words, state_words, state_words_at}
 pub use Rattle.definition.proofs.Base.{test as by}
+use Rattle.words.specs.declared.Word.{Word}
+use Rattle.words.specs.Left.{words_left}
 use Rattle.words.specs.Next.{gap, run, word_at, next_word, piece_at, walk, moved}
 
 map_append : (f : Piece → Piece) (xs ys : List Piece) → map f (xs ++ ys) ≡ map f xs ++ map f ys
@@ -178,6 +180,11 @@ module _ (parts : ℕ → Bool) where
         let z : drop from v ≡ [] = ap (λ (i : ℕ). drop i v) (sym m) ∙ empty_rest (omega (arith, next_from)) in
         absurd (omega (arith, length-drop from v, ap length z)))
 
+    -- A word lies within the text.
+    pub word_within : (next_word parts v from).start < (next_word parts v from).end → (next_word parts v from).end ≤ length v
+    unfolding next_word word_at
+    word_within h = let s : ℕ = from + gap parts (drop from v) in omega (arith, run_le (drop s v), length-drop s v)
+
     walk_more : (n : ℕ) → ltb (next_word parts v from).start (next_word parts v from).end ≡ true → walk parts v from (suc n) ≡ piece_at v (next_word parts v from) ∷ walk parts v (next_word parts v from).end n
     unfolding walk
     walk_more n e = rw (e, walk)
@@ -227,6 +234,101 @@ module _ (parts : ℕ → Bool) where
       ∙ ap (λ (ps : List Piece). ps ++ map (moved o) (pieces parts n [] bs)) (emit_moved o s w)
       ∙ sym (ap (map (moved o)) (pieces_part s w b bs e) ∙ map_append (moved o) (emit s w) (pieces parts n [] bs)))
       (λ e. pieces_more (o + s) w b bs e ∙ pieces_moved o s (w ++ b ∷ []) bs ∙ sym (ap (map (moved o)) (pieces_more s w b bs e)))
+
+-- ---- there are no more words than bytes
+
+module _ (parts : ℕ → Bool) where
+  emit_few : (s : ℕ) (w : List ℕ) → length (emit s w) ≤ length w
+  unfolding emit
+  emit_few s [] = omega arith
+  emit_few s (b ∷ w) = omega arith
+
+  pieces_few : (s : ℕ) (w bs : List ℕ) → length (pieces parts s w bs) ≤ length bs + length w
+  unfolding pieces
+  pieces_few s w [] = omega (arith, emit_few s w)
+  pieces_few s w (b ∷ bs) =
+      by (parts b)
+      (λ e.
+      let rest : List Piece = pieces parts (suc (s + length w)) [] bs in
+      omega (arith, ap length (pieces_part parts s w b bs e), length-append (emit s w) rest, emit_few s w, pieces_few (suc (s + length w)) [] bs))
+      (λ e. omega (arith, ap length (pieces_more parts s w b bs e), pieces_few s (w ++ b ∷ []) bs, length-append w (b ∷ [])))
+
+  pub words_few : (v : List ℕ) (at : ℕ) → length (words_left parts v at) ≤ length v
+  unfolding words_left
+  words_few v at = omega (arith, pieces_few at [] (drop at v), length-drop at v)
+
+-- ---- one step of a walk, as an iterator takes it
+
+-- A word that comes first among those that are left, as a search for it finds it.
+pub record Step (parts : ℕ → Bool) (v : List ℕ) (at : ℕ) (p : Piece) (ps : List Piece) : Type 0 where
+  pub word : Word
+  pub is : word ≡ next_word parts v at
+  pub some : word.start ≡ word.end → ⊥
+  pub there : at < length v
+  pub within : word.end ≤ length v
+  pub piece : p ≡ record { off = word.start; word = take (word.end - word.start) (drop word.start v) }
+  pub rest : ps ≡ words_left parts v word.end
+  pub ends : p.off + length p.word ≡ word.end
+
+pub step : (parts : ℕ → Bool) (v : List ℕ) (at : ℕ) (p : Piece) (ps : List Piece) → words_left parts v at ≡ p ∷ ps → Step parts v at p ps
+unfolding words_left piece_at
+step parts v at p ps e =
+    by (ltb x.start x.end)
+    (λ f.
+    let l : x.start < x.end = ltb-true _ _ f in
+    let z : p ∷ ps ≡ piece_at v x ∷ pieces parts x.end [] (drop x.end v) = sym e ∙ next_some parts v at l in
+    let h : p ≡ piece_at v x = ap (λ (qs : List Piece). head_or p qs) z in
+    let w : x.end ≤ length v = word_within parts v at l in
+    record {
+      word = x;
+      is = refl;
+      some = λ q. omega (arith, q, l);
+      there = omega (arith, next_from parts v at, l, w);
+      within = w;
+      piece = h;
+      rest = ap tail_of z;
+      ends =
+          omega (
+            arith,
+            ap (λ (q : Piece). q.off) h,
+            ap (λ (q : Piece). length q.word) h,
+            length-take-le (x.end - x.start) (drop x.start v) (omega (arith, length-drop x.start v, w, l)),
+            l,
+          );
+    })
+    (λ f. absurd (cons_nil (sym e ∙ next_none parts v at (ltb-false _ _ f))))
+  where
+    x : Word
+    x = next_word parts v at
+
+    head_or : Piece → List Piece → Piece
+    head_or d [] = d
+    head_or d (q ∷ qs) = q
+
+    tail_of : List Piece → List Piece
+    tail_of [] = []
+    tail_of (q ∷ qs) = qs
+
+    cons_nil : {q : Piece} {qs : List Piece} → q ∷ qs ≡ [] → ⊥
+    cons_nil e = cc
+
+module _ (parts : ℕ → Bool) (v : List ℕ) (at : ℕ) (x : Word) (e : x ≡ next_word parts v at) where
+  pub left_none : x.start ≡ x.end → words_left parts v at ≡ []
+  unfolding words_left
+  left_none h = next_none parts v at (omega (arith, h, ap (λ (y : Word). y.start) e, ap (λ (y : Word). y.end) e))
+
+  pub left_order : x.start ≤ x.end
+  left_order = rw e (next_order parts v at)
+
+  pub left_within : (x.start ≡ x.end → ⊥) → x.end ≤ length v
+  left_within h = let l : x.start < x.end = omega (arith, h, left_order) in rw e (word_within parts v at (subst (λ (y : Word). y.start < y.end) e l))
+
+  pub left_some : (x.start ≡ x.end → ⊥) → words_left parts v at ≡ record { off = x.start; word = take (x.end - x.start) (drop x.start v) } ∷ words_left parts v x.end
+  unfolding words_left piece_at
+  left_some h =
+      let l : x.start < x.end = omega (arith, h, left_order) in
+      next_some parts v at (subst (λ (y : Word). y.start < y.end) e l)
+      ∙ ap (λ (y : Word). record { off = y.start; word = take (y.end - y.start) (drop y.start v) } ∷ pieces parts y.end [] (drop y.end v)) (sym e)
 
 -- ---- event words and state words by a walk
 

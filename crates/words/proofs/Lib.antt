@@ -1,2 +1,3 @@
 pub mod Laws
 pub mod Ends
+pub mod Starred

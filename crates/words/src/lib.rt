@@ -7,6 +7,9 @@ ghost use Rattle.definition.specs.Text as T;
 ghost use Rattle.definition.specs.Text.{is_space, is_separator, body_length, stripped, event_words};
 ghost use Rattle.words.specs.Next.{Tells, IsShorter, gap, next_word, as_span};
 
+pub mod each;
+
+use each::EventWords;
 use text::{is_separator, is_space, same};
 
 // From start up to end; both are the same where there is no word.
@@ -124,13 +127,5 @@ fn is_star(w: &[u8]) -> bool
 pub fn is_wildcard(v: &[u8]) -> bool
     ensures { result ≡ T.wildcard (event_words v.now) }
 {
-    let mut at = 0;
-    while at < v.len() {
-        let w = next_event_word(v, at);
-        if is_star(&v[w.start..w.end]) {
-            return true;
-        }
-        at = w.end;
-    }
-    false
+    EventWords { v, at: 0 }.any(|found| is_star(found.word))
 }

@@ -6,7 +6,7 @@ use mathlib.Core.List.{List}
 use native.Mathlib.Omega.{arith}
 use lib.ListN.{length}
 use Rattle.definition.specs.declared.Position.{Position}
-use Rattle.definition.specs.Rows.{Row, Table}
+use Rattle.definition.specs.Rows.{Table}
 use Rattle.definition.specs.Look.{kept_name, name_row}
 use Rattle.definition.specs.Reader as Reader
 use Rattle.rows.specs.declared.lent.Lent.{Lent}
@@ -15,6 +15,9 @@ use Rattle.plain.specs.Plain.{Parsed, parsed_of}
 use Rattle.plain.proofs.PlainLaw.{form}
 use Rattle.plan.specs.declared.Plan.{Plan}
 use Rattle.plan.specs.After.{move_of}
+use Rattle.std.specs.Prelude.{Option}
+use Rattle.tables.specs.declared.OpenedName.{OpenedName}
+use Rattle.tables.specs.Whole.{opens}
 use Rattle.apply.specs.Applied.{rows_of, applied_in}
 use Rattle.arena.specs.declared.Written.{Written}
 use Rattle.arena.specs.Storing.{Storable, Stored}
@@ -80,18 +83,17 @@ module _ (xs : Lent) (p : Position) (v : Parsed) (q : Plan) (made : Bool) (charg
     pub apply_asks : {n : Position} → n ≡ rows_of p w.members → ((n.regions < 65536) × (n.members < 65536)) × (q.pending.kept < 65536)
     apply_asks e = ((omega (arith, ap (λ (z : Position). z.regions) e, in_range.regions), omega (arith, ap (λ (z : Position). z.members) e, in_range.members)), in_range.pending)
 
-    pub leaves : {name : List ℕ} → name ≡ v.name → {row : Row} → row ≡ name_row (kept_name v.tag name) → {nl : ℕ} → nl ≡ length (kept_name v.tag name)
-        → {n : Position} → n ≡ rows_of p w.members → {m : ℕ} → m ≡ move_of v.kind
-        → {z : Reader.Lent} → z ≡ lent (applied_in t' v.tag m nl row n q a st' c d f h i j ms' o y r) tx'
+    pub leaves : {name : List ℕ} → name ≡ v.name → {o' : Option OpenedName} → o' ≡ opens (move_of v.kind) (length (kept_name v.tag name)) (name_row (kept_name v.tag name))
+        → {n : Position} → n ≡ rows_of p w.members
+        → {z : Reader.Lent} → z ≡ lent (applied_in t' v.tag o' n q a st' c d f h i j ms' o y r) tx'
         → {u : Position} → u ≡ position_by p q v.kind made charge w
         → Leaves (lent_of xs) p v q z u
-    leaves {name} en {row} er {nl} el {n} ec {m} em {z} et {u} eu =
+    leaves {name} en {o'} eo {n} ec {z} et {u} eu =
         record {
           lent = λ A.
               et
-              ∙ D.tables_done p a b c d f h i j k o y r tx v q A made R.makes charge R.takes st' ms' tx' t' w W (applied_in t' v.tag m nl row n q a st' c d f h i j ms' o y r) nl row
-              (er ∙ ap (λ (z : List ℕ). name_row (kept_name v.tag z)) en)
-              (el ∙ ap (λ (z : List ℕ). length (kept_name v.tag z)) en)
-              (λ z. applied_in t' v.tag (em z) nl row (ec z) q a st' c d f h i j ms' o y r);
+              ∙ D.tables_done p a b c d f h i j k o y r tx v q A made R.makes charge R.takes st' ms' tx' t' w W (applied_in t' v.tag o' n q a st' c d f h i j ms' o y r) o'
+              (eo ∙ ap (λ (z : List ℕ). opens (move_of v.kind) (length (kept_name v.tag z)) (name_row (kept_name v.tag z))) en)
+              (λ z. applied_in t' v.tag o' (ec z) q a st' c d f h i j ms' o y r);
           position = λ A. D.position_done p a b c d f h i j k o y r tx v q A made R.makes charge R.takes st' ms' tx' t' w W u eu;
         }

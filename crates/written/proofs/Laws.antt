@@ -8,7 +8,9 @@ use native.Mathlib.Numerals.{add-one}
 use native.Mathlib.Omega.{arith}
 use lib.Dec.{eqb}
 use lib.ListN.{length, get_or, drop, set, drop_of_length-le, length-append}
-use lib.Seq.{drop-cons, sets, sets-eq, length-sets, set_comm}
+use borrow.Rule.Slice.PartMut.{put_mid}
+use Rattle.std.proofs.lemmas.List.{drop-drop}
+use lib.Seq.{drop-cons, sets, sets-eq, length-sets}
 use borrow.Author.Tests.{le-leb, lt-leb, eq-eqb, ne_eqb, eqb-true, eqb-false}
 use Rattle.words.proofs.Laws.{by}
 use Rattle.definition.specs.Text.{decimal, generated_name, str, escaped_quotes, quoted, trimmed}
@@ -24,18 +26,13 @@ pub sets_on : (x y l : List ℕ) (i j : ℕ) → j ≡ i + length x → sets (se
 sets_on [] y l i j h = ap (λ (k : ℕ). sets l k y) (h ∙ add-zero i)
 sets_on (a ∷ x) y l i j h = sets_on x y (set l i a) (suc i) j (omega arith)
 
-set_before : (y l : List ℕ) (i j a : ℕ) → i < j → set (sets l j y) i a ≡ sets (set l i a) j y
-set_before [] l i j a h = refl
-set_before (b ∷ y) l i j a h = set_before y (set l j b) i (suc j) a (omega arith) ∙ ap (λ (m : List ℕ). sets m (suc j) y) (set_comm l j i b a (λ e. omega arith))
-
--- the later part may be stored first
-pub sets_back : (x y l : List ℕ) (i j : ℕ) → j ≡ i + length x → sets (sets l j y) i x ≡ sets l i (x ++ y)
-sets_back [] y l i j h = ap (λ (k : ℕ). sets l k y) (h ∙ add-zero i)
-sets_back (a ∷ x) y l i j h = ap (λ (m : List ℕ). sets m (suc i) x) (set_before y l i j a (omega arith)) ∙ sets_back x y (set l i a) (suc i) j (omega arith)
-
 -- ---- a text in a buffer
 
 module _ (w t : List ℕ) where
+  pub written_is : length w ≤ length t → w ++ drop (length w) t ≡ written w t
+  unfolding written
+  written_is h = rw (le-leb _ _ h, written)
+
   pub written_all : length w ≤ length t → sets t 0 w ≡ written w t
   unfolding written
   written_all h = rw (le-leb _ _ h, written) (sets-eq w t 0 (omega arith) ∙ ap (λ (n : ℕ). w ++ drop n t) (zero-add (length w)))
@@ -58,9 +55,19 @@ pub name_length_lem : (n : ℕ) → length (generated_name n) ≡ 4 + length (de
 unfolding generated_name str
 name_length_lem n = length-append (str "__id") (decimal n)
 
-pub name_put : (n : ℕ) (t : List ℕ) → 4 + length (decimal n) ≤ length t → sets (sets t 4 (decimal n)) 0 (95 ∷ 95 ∷ 105 ∷ 100 ∷ []) ≡ written (generated_name n) t
-unfolding generated_name str
-name_put n t h = sets_back (str "__id") (decimal n) t 0 4 refl ∙ written_all (generated_name n) t (omega (arith, name_length_lem n))
+module _ (n : ℕ) (t x : List ℕ) (e : x ≡ decimal n) where
+  pub name_length : 4 + length x ≤ length t → 4 + length x ≡ written_length (generated_name n) t
+  name_length h =
+      let k : 4 + length x ≡ length (generated_name n) = omega (arith, ap length e, name_length_lem n) in
+      k ∙ length_all (generated_name n) t (omega arith)
+
+  pub name_put : 4 + length x ≤ length t → put_mid 4 (length x) ((95 ∷ 95 ∷ 105 ∷ 100 ∷ []) ++ drop 4 t) x ≡ written (generated_name n) t
+  unfolding generated_name str
+  name_put h =
+      let k : 4 + length x ≡ length (generated_name n) = omega (arith, ap length e, name_length_lem n) in
+      ap (λ (y : List ℕ). 95 ∷ 95 ∷ 105 ∷ 100 ∷ (x ++ y)) (drop-drop (length x) 4 t ∙ ap (λ (m : ℕ). drop m t) k)
+      ∙ ap (λ (y : List ℕ). 95 ∷ 95 ∷ 105 ∷ 100 ∷ (y ++ drop (length (generated_name n)) t)) e
+      ∙ written_is (generated_name n) t (omega arith)
 
 -- ---- escapes
 
@@ -152,11 +159,6 @@ kept_length l m x p e = ap length e ∙ length-sets l p x
 module _ (n count : ℕ) (t : List ℕ) (e : count ≡ length (decimal n)) where
   pub name_short : length t < 4 + count → (0 ≡ written_length (generated_name n) t) × (t ≡ written (generated_name n) t)
   name_short h = let k : length t < length (generated_name n) = omega (arith, name_length_lem n) in (length_none _ _ k, written_none _ _ k)
-
-  pub name_done : (m : List ℕ) → 4 + count ≤ length t → m ≡ sets t 4 (decimal n) → (4 + count ≡ written_length (generated_name n) t) × (sets m 0 (95 ∷ 95 ∷ 105 ∷ 100 ∷ []) ≡ written (generated_name n) t)
-  name_done m h f =
-      let k : 4 + count ≡ length (generated_name n) = omega (arith, name_length_lem n) in
-      (k ∙ length_all (generated_name n) t (omega arith), ap (λ (l : List ℕ). sets l 0 (95 ∷ 95 ∷ 105 ∷ 100 ∷ [])) f ∙ name_put n t (omega arith))
 
 module _ (w t : List ℕ) where
   pub quotes_short : length t < length (escaped_quotes w) + 2 → (0 ≡ written_length (in_quotes w) t) × (t ≡ written (in_quotes w) t)

@@ -10,13 +10,6 @@ ghost use Rattle.written.specs.Written.{written, written_length, escape, in_quot
 use itoa::Buffer;
 use words::trim;
 
-fn put_at(out: &mut [u8], at: usize, w: &[u8])
-    requires { at + length w.now ≤ length out.old }
-    ensures { out.new ≡ sets out.old at w.now }
-{
-    out[at..at + w.len()].copy_from_slice(w);
-}
-
 // `__id` and n. The length, or 0 where the buffer is too short: then nothing is written.
 pub fn put_generated(out: &mut [u8], n: u32) -> usize
     ensures value { result ≡ written_length (generated_name n) out.old }
@@ -28,8 +21,8 @@ pub fn put_generated(out: &mut [u8], n: u32) -> usize
     if out.len() < end {
         return 0;
     }
-    put_at(out, 4, digits);
-    put_at(out, 0, b"__id");
+    out[..4].copy_from_slice(b"__id");
+    out[4..end].copy_from_slice(digits);
     end
 }
 
@@ -41,6 +34,7 @@ fn marks(w: &[u8]) -> usize
     w.iter().filter(|b| **b == b'"').count()
 }
 
+// Not one with the escapes that are printed: those are cut off at the buffer's end, these are known to fit, and what stands behind them stays.
 fn put_escape(out: &mut [u8], at: usize, b: u8) -> usize
     requires { at + length (escape b) ≤ length out.old }
     ensures value { result ≡ at + length (escape b) }
@@ -75,15 +69,7 @@ fn put_in_quotes(out: &mut [u8], w: &[u8]) -> usize
     ensures value { result ≡ written_length (in_quotes w.now) out.old }
     ensures out_after { out.new ≡ written (in_quotes w.now) out.old }
 {
-    let more = marks(w);
-    if out.len() < 2 {
-        return 0;
-    }
-    let room = out.len() - 2;
-    if room < w.len() {
-        return 0;
-    }
-    if room - w.len() < more {
+    if out.len() < 2 || out.len() - 2 < w.len() + marks(w) {
         return 0;
     }
     out[0] = b'"';

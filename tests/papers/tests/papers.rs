@@ -136,15 +136,15 @@ fn without_goals(answer: &str) -> String {
     words.filter(|word| !is_made(word)).collect::<Vec<_>>().join(" ")
 }
 
-/// A proof's own words and a method of the library, which need no import.
-const KNOWN_WORDS: [&str; 4] = ["checked_sub", "elim", "omega", "search"];
+/// Words of proofs, the two of a Boolean and methods of the library, which need no import.
+const KNOWN_WORDS: [&str; 7] = ["checked_sub", "default", "elim", "false", "omega", "search", "true"];
 
-/// An edit that brings a name that its file does not know is refused for that, whatever the contract says. Codes, columns and the fields of a position are known by their type;
+/// An edit that brings a name that its file does not know is refused for that, whatever the contract says. Codes, columns and the fields of a position and of a plan are known by their type;
 /// an edit may bring a name's `use` line.
 #[test]
 fn edits_use_names_in_scope() {
-    let shared =
-        ["lib", "codes", "cells"].map(|name| read(&repository().join(format!("crates/definition/src/{name}.rt"))));
+    let shared = ["definition/src/lib", "definition/src/codes", "definition/src/cells", "plan/src/lib"]
+        .map(|path| read(&repository().join(format!("crates/{path}.rt"))));
     for path in must_fail_files() {
         let (folder, edit) = (path.ancestors().nth(2).expect("a crate").to_path_buf(), replacements(&read(&path)));
         let brought: String = edit.iter().filter(|part| part.new.starts_with("use ")).map(|part| &*part.new).collect();
@@ -161,16 +161,24 @@ fn edits_use_names_in_scope() {
 }
 
 /// Those that turn a condition whose goals are named after a call or a loop, and so keep their names.
-const NAMED_OTHERWISE: [&str; 11] = [
+const NAMED_OTHERWISE: [&str; 19] = [
+    "advance/must-fail/code_end_closes_nothing.edit",
     "apply/must-fail/code_name_kept_at_an_end.edit",
+    "apply/must-fail/code_name_kept_of_an_empty.edit",
     "definition/must-fail/entry_of_another_kind.edit",
     "definition/must-fail/list_of_another_kind.edit",
     "definition/must-fail/owner_of_another_kind.edit",
     "elements/must-fail/code_else_for_elseif.edit",
+    "entries/must-fail/code_first_shape_for_all.edit",
+    "found/must-fail/code_any_unknown.edit",
     "keys/must-fail/key_misspelled.edit",
+    "names/must-fail/code_near_unseen.edit",
+    "plain/must-fail/code_no_key_numbered.edit",
     "reading/must-fail/kind_of_another.edit",
     "rows/must-fail/place_next.edit",
+    "rows/must-fail/root_by_another_column.edit",
     "settle/must-fail/code_fifteen_too_early.edit",
+    "texts/must-fail/code_text_as_quoted.edit",
     "words/must-fail/star_alone_goes.edit",
     "written/must-fail/exact_fit_refused.edit",
 ];
@@ -192,9 +200,12 @@ fn edits_of_conditions_bring_their_proofs() {
 }
 
 /// Those that add or lose an operation of which no answer names the place.
-const MOVE_PLACES: [&str; 3] = [
+const MOVE_PLACES: [&str; 6] = [
+    "advance/must-fail/code_end_closes_nothing.edit",
+    "entries/must-fail/code_first_shape_for_all.edit",
+    "names/must-fail/code_new_names_repeated.edit",
+    "reading/must-fail/highest_byte_first.edit",
     "see/must-fail/if_found_by_depth.edit",
-    "settle/must-fail/code_fifteen_too_early.edit",
     "tables/must-fail/code_row_beyond_the_last.edit",
 ];
 

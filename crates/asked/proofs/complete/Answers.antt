@@ -1,50 +1,43 @@
-use mathlib.Core.Path.{refl}
+use mathlib.Core.Logic.{inl, inr}
+use mathlib.Core.Path.{refl, ap}
+use Rattle.definition.specs.Codes.{tag_number}
+use Rattle.definition.specs.declared.codes.Tag.TheVariants as T
+use Rattle.plain.specs.Plain.{parsed_in}
+use Rattle.plain.proofs.Codes.{tag_apart}
 use mathlib.Core.List.{[], ◌∷◌}
 use Rattle.definition.specs.Elements.{required_in, requirements}
-use Rattle.plain.specs.Keyed.{is_marked}
+use Rattle.asked.specs.Asked.{there, asked_in}
 use Rattle.asked.proofs.AskedLaws.{all_one, all_two, all_either, all_none, keys_at, keys_none}
 use Rattle.asked.proofs.complete.Goals as goal
 
--- src/lib.rt:47:9
-pub returns-then-tag-eq-DATA : goal.returns-then-tag-eq-DATA
-unfolding required_in requirements
-returns-then-tag-eq-DATA c = all_one (is_marked c.args.ix) c.args.tag 1 (keys_at c.args.tag 9 ((1 ∷ []) ∷ []) refl c.if-tag-eq-DATA.true) _ c.has.ensures
+pub returns-in-Data : goal.returns-in-Data
+unfolding asked_in parsed_in required_in requirements
+returns-in-Data c = all_one (there (parsed_in c.args.event.now.src.now c.args.event.now.plain)) (tag_number c.args.event.now.plain.tag) 1 (keys_at (tag_number c.args.event.now.plain.tag) 9 ((1 ∷ []) ∷ []) refl (ap tag_number c.in-Data.is)) _ c.has.ensures
 
--- src/lib.rt:52:9
-pub returns-then-tag-eq-FOREACH : goal.returns-then-tag-eq-FOREACH
-unfolding required_in requirements
-returns-then-tag-eq-FOREACH c = all_two (is_marked c.args.ix) c.args.tag (keys_at c.args.tag 25 ((20 ∷ []) ∷ (21 ∷ []) ∷ []) refl c.if-tag-eq-FOREACH.true) _ _ c.has-array.ensures c.has-item.ensures
+pub returns-in-Param : goal.returns-in-Param
+unfolding asked_in parsed_in required_in requirements
+returns-in-Param c = all_one (there (parsed_in c.args.event.now.src.now c.args.event.now.plain)) (tag_number c.args.event.now.plain.tag) 3 (keys_at (tag_number c.args.event.now.plain.tag) 14 ((3 ∷ []) ∷ []) refl (ap tag_number c.in-Param.is)) _ c.has-in-Param.ensures
 
--- src/lib.rt:55:9
-pub returns-then-tag-eq-IF : goal.returns-then-tag-eq-IF
-unfolding required_in requirements
-returns-then-tag-eq-IF c = all_one (is_marked c.args.ix) c.args.tag 16 (keys_at c.args.tag 24 ((16 ∷ []) ∷ []) refl c.if-tag-eq-IF.true) _ c.has-then-tag-eq-IF.ensures
+pub returns-in-Assign : goal.returns-in-Assign
+unfolding asked_in parsed_in required_in requirements
+returns-in-Assign c = all_one (there (parsed_in c.args.event.now.src.now c.args.event.now.plain)) (tag_number c.args.event.now.plain.tag) 27 (keys_at (tag_number c.args.event.now.plain.tag) 23 ((27 ∷ []) ∷ []) refl (ap tag_number c.in-Assign.is)) _ c.has-in-Assign.ensures
 
--- src/lib.rt:58:9
-pub returns-then-tag-eq-ELSEIF : goal.returns-then-tag-eq-ELSEIF
-unfolding required_in requirements
-returns-then-tag-eq-ELSEIF c = all_one (is_marked c.args.ix) c.args.tag 16 (keys_at c.args.tag 13 ((16 ∷ []) ∷ []) refl c.if-tag-eq-ELSEIF.true) _ c.has-then-tag-eq-ELSEIF.ensures
+pub returns-in-Raise : goal.returns-in-Raise
+unfolding asked_in parsed_in required_in requirements
+returns-in-Raise c = all_one (there (parsed_in c.args.event.now.src.now c.args.event.now.plain)) (tag_number c.args.event.now.plain.tag) 14 (keys_at (tag_number c.args.event.now.plain.tag) 20 ((14 ∷ []) ∷ []) refl (ap tag_number c.in-Raise.is)) _ c.has-in-Raise.ensures
 
--- src/lib.rt:61:9
-pub returns-then-tag-eq-PARAM : goal.returns-then-tag-eq-PARAM
-unfolding required_in requirements
-returns-then-tag-eq-PARAM c = all_one (is_marked c.args.ix) c.args.tag 3 (keys_at c.args.tag 14 ((3 ∷ []) ∷ []) refl c.if-tag-eq-PARAM.true) _ c.has-then-tag-eq-PARAM.ensures
+pub returns-in-Foreach : goal.returns-in-Foreach
+unfolding asked_in parsed_in required_in requirements
+returns-in-Foreach c = all_two (there (parsed_in c.args.event.now.src.now c.args.event.now.plain)) (tag_number c.args.event.now.plain.tag) (keys_at (tag_number c.args.event.now.plain.tag) 25 ((20 ∷ []) ∷ (21 ∷ []) ∷ []) refl (ap tag_number c.in-Foreach.is)) _ _ c.has-in-Foreach.ensures c.has-in-Foreach-2.ensures
 
--- src/lib.rt:64:9
-pub returns-then-tag-eq-ASSIGN : goal.returns-then-tag-eq-ASSIGN
-unfolding required_in requirements
-returns-then-tag-eq-ASSIGN c = all_one (is_marked c.args.ix) c.args.tag 27 (keys_at c.args.tag 23 ((27 ∷ []) ∷ []) refl c.if-tag-eq-ASSIGN.true) _ c.has-then-tag-eq-ASSIGN.ensures
+pub returns-in-Cancel : goal.returns-in-Cancel
+unfolding asked_in parsed_in required_in requirements
+returns-in-Cancel c = all_either (there (parsed_in c.args.event.now.src.now c.args.event.now.plain)) (tag_number c.args.event.now.plain.tag) (keys_at (tag_number c.args.event.now.plain.tag) 21 ((23 ∷ 24 ∷ []) ∷ []) refl (ap tag_number c.in-Cancel.is)) _ _ c.has-in-Cancel.ensures c.has-in-Cancel-2.ensures
 
--- src/lib.rt:67:9
-pub returns-then-tag-eq-RAISE : goal.returns-then-tag-eq-RAISE
-unfolding required_in requirements
-returns-then-tag-eq-RAISE c = all_one (is_marked c.args.ix) c.args.tag 14 (keys_at c.args.tag 20 ((14 ∷ []) ∷ []) refl c.if-tag-eq-RAISE.true) _ c.has-then-tag-eq-RAISE.ensures
+pub returns-in-If : goal.returns-in-If
+unfolding asked_in parsed_in required_in requirements
+returns-in-If c = elim c.in-If.is [ inl e ↦ all_one (there (parsed_in c.args.event.now.src.now c.args.event.now.plain)) (tag_number c.args.event.now.plain.tag) 16 (keys_at (tag_number c.args.event.now.plain.tag) 24 ((16 ∷ []) ∷ []) refl (ap tag_number e)) _ c.has-in-If.ensures | inr e ↦ all_one (there (parsed_in c.args.event.now.src.now c.args.event.now.plain)) (tag_number c.args.event.now.plain.tag) 16 (keys_at (tag_number c.args.event.now.plain.tag) 13 ((16 ∷ []) ∷ []) refl (ap tag_number e)) _ c.has-in-If.ensures ]
 
--- src/lib.rt:72:9
-pub returns-then-tag-eq-CANCEL : goal.returns-then-tag-eq-CANCEL
-unfolding required_in requirements
-returns-then-tag-eq-CANCEL c = all_either (is_marked c.args.ix) c.args.tag (keys_at c.args.tag 21 ((23 ∷ 24 ∷ []) ∷ []) refl c.if-tag-eq-CANCEL.true) _ _ c.has-one.ensures c.has-other.ensures
-
--- src/lib.rt:43:1
-pub returns : goal.returns
-returns c = all_none (is_marked c.args.ix) c.args.tag (keys_none c.args.tag c.if-tag-eq-DATA.false c.if-tag-eq-FOREACH.false c.if-tag-eq-IF.false c.if-tag-eq-ELSEIF.false c.if-tag-eq-PARAM.false c.if-tag-eq-ASSIGN.false c.if-tag-eq-RAISE.false c.if-tag-eq-CANCEL.false)
+pub returns-in_default : goal.returns-in_default
+unfolding asked_in parsed_in
+returns-in_default c = all_none (there (parsed_in c.args.event.now.src.now c.args.event.now.plain)) (tag_number c.args.event.now.plain.tag) (keys_none (tag_number c.args.event.now.plain.tag) (tag_apart c.args.event.now.plain.tag T.Data c.in_default.not-Data) (tag_apart c.args.event.now.plain.tag T.Foreach c.in_default.not-Foreach) (tag_apart c.args.event.now.plain.tag T.If c.in_default.not-If) (tag_apart c.args.event.now.plain.tag T.Elseif c.in_default.not-Elseif) (tag_apart c.args.event.now.plain.tag T.Param c.in_default.not-Param) (tag_apart c.args.event.now.plain.tag T.Assign c.in_default.not-Assign) (tag_apart c.args.event.now.plain.tag T.Raise c.in_default.not-Raise) (tag_apart c.args.event.now.plain.tag T.Cancel c.in_default.not-Cancel))

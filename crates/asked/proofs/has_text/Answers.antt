@@ -1,10 +1,10 @@
-use Rattle.asked.proofs.AskedLaws.{text_some, text_none}
+use Rattle.definition.specs.declared.codes.Kind.TheVariants as K
+use Rattle.plain.proofs.Codes.{kind_agrees, kind_differs}
+use Rattle.asked.proofs.AskedLaws.{text_none, text_some}
 use Rattle.asked.proofs.has_text.Goals as goal
 
--- src/lib.rt:99:9
-pub returns-then-p-eq-WHOLE : goal.returns-then-p-eq-WHOLE
-returns-then-p-eq-WHOLE c = text_some c.args.src.now c.args.p c.if-p-eq-WHOLE.true _ c.bytes_of.ensures.result_value _ c.trim-t.ensures
+pub returns-then-ne : goal.returns-then-ne
+returns-then-ne c = text_none c.args.event.now.src.now c.args.event.now.plain (kind_differs c.args.event.now.plain.kind K.Whole c.if-ne.ensures)
 
--- src/lib.rt:91:1
 pub returns : goal.returns
-returns c = text_none c.args.src.now c.args.p c.if-p-eq-WHOLE.false
+returns c = text_some c.args.event.now.src.now c.args.event.now.plain (kind_agrees c.args.event.now.plain.kind K.Whole c.if-ne.ensures) _ c.bytes_of.ensures.result_value _ c.trim.ensures

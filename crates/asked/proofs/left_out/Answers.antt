@@ -1,19 +1,26 @@
-use Rattle.plain.specs.Keyed.{is_marked}
-use Rattle.asked.proofs.AskedLaws.{out_include, out_src, out_delay, out_none}
+use mathlib.Core.Path.{refl, ap}
+use Rattle.definition.specs.Codes.{tag_number}
+use Rattle.definition.specs.declared.codes.Tag.TheVariants as T
+use Rattle.plain.specs.Plain.{parsed_in}
+use Rattle.plain.proofs.Codes.{tag_apart}
+use mathlib.Core.Logic.{inl, inr}
+use Rattle.definition.specs.Elements.{left_out_keys}
+use Rattle.asked.specs.Asked.{there, asked_in}
+use Rattle.asked.proofs.AskedLaws.{out_include, out_at, out_none}
 use Rattle.asked.proofs.left_out.Goals as goal
 
--- src/lib.rt:32:9
-pub returns-then-tag-eq-INCLUDE : goal.returns-then-tag-eq-INCLUDE
-returns-then-tag-eq-INCLUDE c = out_include (is_marked c.args.ix) c.args.tag c.if-tag-eq-INCLUDE.true
+pub returns-in-Include : goal.returns-in-Include
+unfolding asked_in parsed_in
+returns-in-Include c = out_include (there (parsed_in c.args.event.now.src.now c.args.event.now.plain)) (tag_number c.args.event.now.plain.tag) (ap tag_number c.in-Include.is)
 
--- src/lib.rt:35:9
-pub returns-then-tag : goal.returns-then-tag
-returns-then-tag c = out_src (is_marked c.args.ix) c.args.tag c.if-tag-eq-INCLUDE.false c.if-tag.true _ c.has.ensures
+pub returns-in-Data : goal.returns-in-Data
+unfolding asked_in parsed_in left_out_keys
+returns-in-Data c = elim c.in-Data.is [ inl e ↦ out_at (there (parsed_in c.args.event.now.src.now c.args.event.now.plain)) (tag_number c.args.event.now.plain.tag) 9 9 refl refl (ap tag_number e) _ c.has.ensures | inr e ↦ out_at (there (parsed_in c.args.event.now.src.now c.args.event.now.plain)) (tag_number c.args.event.now.plain.tag) 26 9 refl refl (ap tag_number e) _ c.has.ensures ]
 
--- src/lib.rt:38:9
-pub returns-then-tag-eq-SEND : goal.returns-then-tag-eq-SEND
-returns-then-tag-eq-SEND c = out_delay (is_marked c.args.ix) c.args.tag c.if-tag-eq-INCLUDE.false c.if-tag.false c.if-tag-eq-SEND.true _ c.has-then-tag-eq-SEND.ensures
+pub returns-in-Send : goal.returns-in-Send
+unfolding asked_in parsed_in left_out_keys
+returns-in-Send c = out_at (there (parsed_in c.args.event.now.src.now c.args.event.now.plain)) (tag_number c.args.event.now.plain.tag) 19 25 refl refl (ap tag_number c.in-Send.is) _ c.has-in-Send.ensures
 
--- src/lib.rt:28:1
-pub returns : goal.returns
-returns c = out_none (is_marked c.args.ix) c.args.tag c.if-tag-eq-INCLUDE.false c.if-tag.false c.if-tag-eq-SEND.false
+pub returns-in_default : goal.returns-in_default
+unfolding asked_in parsed_in
+returns-in_default c = out_none (there (parsed_in c.args.event.now.src.now c.args.event.now.plain)) (tag_number c.args.event.now.plain.tag) (tag_apart c.args.event.now.plain.tag T.Include c.in_default.not-Include) (tag_apart c.args.event.now.plain.tag T.Data c.in_default.not-Data) (tag_apart c.args.event.now.plain.tag T.Script c.in_default.not-Script) (tag_apart c.args.event.now.plain.tag T.Send c.in_default.not-Send)

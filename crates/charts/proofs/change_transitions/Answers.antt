@@ -1,14 +1,16 @@
 use Rattle.std.proofs.Common.{rules, ◌≡◌}
-use Rattle.tables.specs.Whole.{set_unless}
-use Rattle.entries.specs.Whole.{transitions_in, new_transition, old_transition}
-use Rattle.entries.proofs.Laws.{added_altered}
+use Rattle.definition.specs.Codes.{tag_number}
+use Rattle.plan.specs.After.{transition_after}
+use Rattle.tables.specs.Whole.{added_in}
+use Rattle.entries.specs.Whole.{transitions_in, new_transition}
+use Rattle.entries.proofs.Laws.{then_altered}
 use Rattle.charts.proofs.change_transitions.Goals as goal
-use Rattle.charts.proofs.change_transitions.Goals.{then-p-ne0, else-p-ne0}
+use Rattle.charts.proofs.change_transitions.Goals.{in-Some, in_default}
 
 pub returns : goal.returns
-unfolding transitions_in set_unless old_transition
+unfolding transitions_in added_in transition_after
 returns c =
-    let e : c.if-p-ne0.transitions ≡ set_unless c.args.p.number.0 c.args.transitions.now c.args.n (new_transition c.args.t.now c.args.tag c.args.p) =
-    elim c.if-p-ne0.branch [ then-p-ne0 w ↦ search rules | else-p-ne0 w ↦ search rules ]
+    let e : c.match-p.transitions ≡ added_in (new_transition c.args.texts.cells.now (tag_number c.args.texts.tag)) c.args.p.added c.args.n c.args.transitions.now =
+    elim c.match-p.branch [ in-Some w ↦ search rules | in_default w ↦ search rules ]
     in
-    added_altered c.args.p.number.0 c.args.p.at c.args.n (old_transition c.args.p) _ c.args.transitions.now _ _ e (c.alter.ensures _ (λ x y h. h))
+    then_altered (λ p. p.at) transition_after _ _ _ _ _ c.in-Some-altered.is e (c.alter.ensures _ (λ x y h. h))

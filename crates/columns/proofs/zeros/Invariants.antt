@@ -1,7 +1,9 @@
-use Prim.Native.Nat.{◌+◌, ◌-◌}
+use Prim.Native.Nat.{◌-◌}
 use mathlib.Core.Path.{◌≡◌}
+use mathlib.Core.Bool.{◌&&◌}
+use lib.ListN.{length}
 use Rattle.columns.specs.Cells.{zeros_from}
 use Rattle.columns.proofs.zeros.Given as goal
 
-abbrev pub invariant-loop-i : goal.invariant-loop-i
-invariant-loop-i l = zeros_from l.row (l.from + l.i) (l.count - l.i) ≡ zeros_from l.row l.from l.count
+abbrev pub invariant-loop-cell : goal.invariant-loop-cell
+invariant-loop-cell l = (l.keeps && zeros_from l.cells l.cell-index (length l.cells - l.cell-index)) ≡ zeros_from l.cells 0 (length l.cells)

@@ -1,14 +1,15 @@
 use Rattle.std.proofs.Common.{rules, ◌≡◌}
-use Rattle.tables.specs.Whole.{set_unless}
+use Rattle.definition.specs.Codes.{tag_number}
+use Rattle.tables.specs.Whole.{added_in}
 use Rattle.entries.specs.Whole.{datums_in, new_datum, old_datum}
-use Rattle.entries.proofs.Laws.{added_altered}
+use Rattle.entries.proofs.Laws.{then_altered}
 use Rattle.entries.proofs.change_datums.Goals as goal
-use Rattle.entries.proofs.change_datums.Goals.{then-p-ne0, else-p-ne0}
+use Rattle.entries.proofs.change_datums.Goals.{in-Some, in_default}
 
 pub returns : goal.returns
-unfolding datums_in set_unless
+unfolding datums_in added_in
 returns c =
-    let e : c.if-p-ne0.datums ≡ set_unless c.args.p.added c.args.datums.now c.args.n (new_datum c.args.t.now c.args.tag c.args.p) =
-    elim c.if-p-ne0.branch [ then-p-ne0 w ↦ search rules | else-p-ne0 w ↦ search rules ]
+    let e : c.match-p.datums ≡ added_in (new_datum c.args.texts.cells.now (tag_number c.args.texts.tag)) c.args.p.added c.args.n c.args.datums.now =
+    elim c.match-p.branch [ in-Some w ↦ search rules | in_default w ↦ search rules ]
     in
-    added_altered c.args.p.added c.args.p.at c.args.n (old_datum c.args.t.now c.args.tag c.args.p) _ c.args.datums.now _ _ e (c.alter.ensures _ (λ x y h. h))
+    then_altered (λ p. p.at) (old_datum c.args.texts.cells.now (tag_number c.args.texts.tag)) _ _ _ _ _ c.in-Some-altered.is e (c.alter.ensures _ (λ x y h. h))

@@ -13,7 +13,6 @@ slice_bounds-head_of-end c = sym (length-take-le c.walk_lines-x.result.end c.arg
 pub head_of-event-requires : goal.head_of-event-requires
 head_of-event-requires c =
     record {
-      pairs_len = c.walk_lines-x.auto.pairs ∙ c.requires;
       heading_value = c.walk_lines-x.ensures.lines ∙ ap (λ (x : List ℕ). settled (walked x)) (sym (cut_out c.args.stream.now c.walk_lines-x.result.end c.walk_lines-x.ensures.end));
     }
 

@@ -1,15 +1,16 @@
-use Rattle.plain.proofs.ValueLaws.{keyed_value}
-use Rattle.plain.specs.Plain.{slots_of, parsed_in}
+use Rattle.definition.specs.declared.codes.Tag.TheVariants as T
+use Rattle.plain.specs.Plain.{parsed_in}
+use Rattle.plain.proofs.Codes.{tag_agrees, tag_differs}
 use Rattle.found.proofs.FoundLaws.{found_data, found_other}
-use native.Mathlib.Omega.{arith}
 use Rattle.found.proofs.found.Goals as goal
 
-pub returns-then-p-ne-DATA : goal.returns-then-p-ne-DATA
+pub returns-then-ne : goal.returns-then-ne
 unfolding parsed_in
-returns-then-p-ne-DATA c = found_other c.args.text.now c.args.datums.now c.args.state (parsed_in c.args.src.now c.args.p) c.if-p-ne-DATA.true
+returns-then-ne c =
+    found_other c.args.text.now c.args.datums.now c.args.state (parsed_in c.args.event.now.src.now c.args.event.now.plain) (tag_differs c.args.event.now.plain.tag T.Data c.if-ne.ensures)
 
 pub returns : goal.returns
 unfolding parsed_in
 returns c =
-    found_data c.args.text.now c.args.datums.now c.args.state (parsed_in c.args.src.now c.args.p) c.if-p-ne-DATA.false _
-    (keyed_value c.args.src.now 1 (omega arith) (slots_of c.args.p) _ c.requires _ c.value.ensures.result_value) _ c.find_datum.ensures
+    found_data c.args.text.now c.args.datums.now c.args.state (parsed_in c.args.event.now.src.now c.args.event.now.plain) (tag_agrees c.args.event.now.plain.tag T.Data c.if-ne.ensures) _
+    c.value.ensures.result_value _ c.find_datum.ensures

@@ -16,14 +16,14 @@ returns-then-row-tag c =
     (got c.args.names.now (length c.args.opened.now - 1) _ c.in-Some-get.ensures.lookup.3.0 (c.in-Some-get.ensures.lookup.3.1 []))
     c.args.tag c.if-row-tag.true
 
-pub returns-then-tag-ne-UNKNOWN : goal.returns-then-tag-ne-UNKNOWN
-returns-then-tag-ne-UNKNOWN c =
+pub returns-then-tag : goal.returns-then-tag
+returns-then-tag c =
     inner_tag c.args.opened.now c.args.names.now c.args.name.now c.in-Some.row.now c.in-Some-get.kept.now (sym c.in-Some.ensures.value)
     (got c.args.names.now (length c.args.opened.now - 1) _ c.in-Some-get.ensures.lookup.3.0 (c.in-Some-get.ensures.lookup.3.1 []))
-    c.args.tag c.if-row-tag.false c.if-tag-ne-UNKNOWN.true
+    c.args.tag c.if-row-tag.false c.if-tag.true
 
 pub returns : goal.returns
 returns c =
     inner_name c.args.opened.now c.args.names.now c.args.name.now c.in-Some.row.now c.in-Some-get.kept.now (sym c.in-Some.ensures.value)
     (got c.args.names.now (length c.args.opened.now - 1) _ c.in-Some-get.ensures.lookup.3.0 (c.in-Some-get.ensures.lookup.3.1 []))
-    c.args.tag c.if-row-tag.false c.if-tag-ne-UNKNOWN.false _ c.same_at.ensures
+    c.args.tag c.if-row-tag.false c.if-tag.false _ c.same_at.ensures

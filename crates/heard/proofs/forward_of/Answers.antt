@@ -1,7 +1,10 @@
+use Rattle.plain.specs.Plain.{parsed_in}
+use Rattle.definition.specs.Codes.{tag_number}
 use mathlib.Core.Path.{ap, ◌∙◌}
 use Rattle.definition.specs.Look.{code_of}
-use Rattle.heard.proofs.CodeLaws.{forward_is}
+use Rattle.heard.proofs.CodeLaws.{forward_is, yes_is}
 use Rattle.heard.proofs.forward_of.Goals as goal
 
 pub returns : goal.returns
-returns c = forward_is c.value.result.now c.args.tag _ _ c.is_true.ensures c.one_if.ensures.0 ∙ ap (code_of c.args.tag 13) c.value.ensures.result_value
+unfolding parsed_in
+returns c = forward_is c.value.result.now (tag_number c.args.event.now.plain.tag) _ _ c.is_true.ensures (c.from.ensures ∙ yes_is _) ∙ ap (code_of (tag_number c.args.event.now.plain.tag) 13) c.value.ensures.result_value

@@ -1,14 +1,38 @@
-use mathlib.Core.Path.{ap, ◌∙◌}
+use native.Mathlib.Omega.{arith}
+use mathlib.Core.Logic.{inl}
+use Rattle.words.proofs.Laws.{words_few}
+use Rattle.std.proofs.lemmas.Iterator.Consumers.{YieldsList-from_first, count_from_yields_List}
+use Rattle.definition.specs.Text.{is_separator}
+use Rattle.words.specs.Left.{words_left}
+use Rattle.definition.specs.declared.codes.Tag.TheVariants as T
+use Rattle.plain.specs.Plain.{slots_of, loads_in, parsed_in}
+use Rattle.definition.specs.Codes.{tag_number}
+use mathlib.Core.Path.{refl, sym, ap, ap₂, ◌∙◌}
+use mathlib.Core.Bool.{◌||◌}
 use mathlib.Core.List.{List}
 use Prim.Native.Nat.{ℕ}
 use lib.ListN.{length}
 use Rattle.definition.specs.Look.{word_spans}
-use Rattle.plain.specs.Keyed.{keyed_bytes}
-use Rattle.heard.proofs.CodeLaws.{names_here, names_other}
+use Rattle.plain.specs.Keyed.{value_in}
+use Rattle.plain.proofs.Codes.{tag_same}
+use Rattle.heard.proofs.CodeLaws.{state_count, names_here, names_other, words_are}
 use Rattle.heard.proofs.names_of.Goals as goal
 
-pub returns-then-tag : goal.returns-then-tag
-returns-then-tag c = names_here c.value.result.now c.args.tag c.if-tag.true _ c.state_words-n.ensures.value ∙ ap (λ (v : List ℕ). length (word_spans c.args.tag 12 v)) c.value.ensures.result_value
+pub returns-then-eq : goal.returns-then-eq
+unfolding parsed_in
+returns-then-eq c =
+    words_are (tag_number c.args.event.now.plain.tag) 12 (loads_in c.args.event.now.src.now (slots_of c.args.event.now.plain)) _
+    (names_here c.value-v.result.now (tag_number c.args.event.now.plain.tag) (sym (ap₂ ◌||◌ (c.eq.ensures ∙ tag_same c.args.event.now.plain.tag T.Send) (c.eq-2.ensures ∙ tag_same c.args.event.now.plain.tag T.Invoke)) ∙ c.if-eq.true) _ (state_count c.value-v.result.now _ (count_from_yields_List _ _ c.count.ensures.ran (YieldsList-from_first (λ w. record { off = w.off; word = w.word.now }) (λ s. words_left is_separator s.v.now s.at) (words_left is_separator c.value-v.result.now 0) refl)))
+    ∙ ap (λ (v : List ℕ). length (word_spans (tag_number c.args.event.now.plain.tag) 12 v)) c.value-v.ensures.result_value)
 
 pub returns : goal.returns
-returns c = names_other (keyed_bytes c.args.src.now c.args.ix 12) c.args.tag c.if-tag.false
+unfolding parsed_in
+returns c =
+    words_are (tag_number c.args.event.now.plain.tag) 12 (loads_in c.args.event.now.src.now (slots_of c.args.event.now.plain)) _
+    (names_other (value_in 12 (loads_in c.args.event.now.src.now (slots_of c.args.event.now.plain))) (tag_number c.args.event.now.plain.tag) (sym (ap₂ ◌||◌ (c.eq.ensures ∙ tag_same c.args.event.now.plain.tag T.Send) (c.eq-2.ensures ∙ tag_same c.args.event.now.plain.tag T.Invoke)) ∙ c.if-eq.false))
+
+pub count-requires-clause-fits : goal.count-requires-clause-fits
+count-requires-clause-fits c = inl (omega (arith, words_few is_separator c.value-v.result.now 0, c.value-v.ensures.result_len_bound))
+
+pub overflow_cast-result : goal.overflow_cast-result
+overflow_cast-result c = omega (arith, count_from_yields_List _ _ c.count.ensures.ran (YieldsList-from_first (λ w. record { off = w.off; word = w.word.now }) (λ s. words_left is_separator s.v.now s.at) (words_left is_separator c.value-v.result.now 0) refl), words_few is_separator c.value-v.result.now 0, c.value-v.ensures.result_len_bound)

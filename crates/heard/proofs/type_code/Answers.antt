@@ -1,14 +1,31 @@
-use mathlib.Core.Path.{ap, ◌∙◌}
+use Rattle.definition.specs.declared.codes.Tag.TheVariants as T
+use Rattle.plain.specs.Plain.{slots_of, loads_in, parsed_in}
+use Rattle.definition.specs.Codes.{tag_number}
+use mathlib.Core.Path.{sym, ap, ◌∙◌}
 use Rattle.definition.specs.Look.{code_of}
-use Rattle.plain.specs.Keyed.{keyed_bytes}
-use Rattle.heard.proofs.CodeLaws.{history_here, transition_here, type_other}
+use Rattle.plain.specs.Keyed.{value_in}
+use Rattle.plain.proofs.Codes.{tag_is, tag_not}
+use Rattle.heard.proofs.CodeLaws.{history_here, transition_here, type_other, code_none, code_some}
 use Rattle.heard.proofs.type_code.Goals as goal
 
-pub returns-then-tag-eq-HISTORY : goal.returns-then-tag-eq-HISTORY
-returns-then-tag-eq-HISTORY c = history_here c.value.result.now c.args.tag c.if-tag-eq-HISTORY.true _ c.history_code.ensures ∙ ap (code_of c.args.tag 7) c.value.ensures.result_value
+pub returns-then-not-has : goal.returns-then-not-has
+unfolding parsed_in
+returns-then-not-has c d = code_none d (tag_number c.args.event.now.plain.tag) 7 (loads_in c.args.event.now.src.now (slots_of c.args.event.now.plain)) (sym c.has.ensures ∙ c.if-not-has.true)
 
-pub returns-then-tag-eq-TRANSITION : goal.returns-then-tag-eq-TRANSITION
-returns-then-tag-eq-TRANSITION c = transition_here c.value-then-tag-eq-TRANSITION.result.now c.args.tag c.if-tag-eq-TRANSITION.true _ c.transition_code.ensures ∙ ap (code_of c.args.tag 7) c.value-then-tag-eq-TRANSITION.ensures.result_value
+pub returns-then-eq : goal.returns-then-eq
+unfolding parsed_in
+returns-then-eq c d =
+    code_some d (tag_number c.args.event.now.plain.tag) 7 (loads_in c.args.event.now.src.now (slots_of c.args.event.now.plain)) (sym c.has.ensures ∙ c.if-not-has.false) _
+    (history_here c.value.result.now (tag_number c.args.event.now.plain.tag) (tag_is c.args.event.now.plain.tag T.History c.if-eq.ensures) _ c.history_code.ensures ∙ ap (code_of (tag_number c.args.event.now.plain.tag) 7) c.value.ensures.result_value)
+
+pub returns-then-eq-2 : goal.returns-then-eq-2
+unfolding parsed_in
+returns-then-eq-2 c d =
+    code_some d (tag_number c.args.event.now.plain.tag) 7 (loads_in c.args.event.now.src.now (slots_of c.args.event.now.plain)) (sym c.has.ensures ∙ c.if-not-has.false) _
+    (transition_here c.value-then-eq-2.result.now (tag_number c.args.event.now.plain.tag) (tag_is c.args.event.now.plain.tag T.Transition c.if-eq-2.ensures) _ c.transition_code.ensures ∙ ap (code_of (tag_number c.args.event.now.plain.tag) 7) c.value-then-eq-2.ensures.result_value)
 
 pub returns : goal.returns
-returns c = type_other (keyed_bytes c.args.src.now c.args.ix 7) c.args.tag c.if-tag-eq-HISTORY.false c.if-tag-eq-TRANSITION.false
+unfolding parsed_in
+returns c d =
+    code_some d (tag_number c.args.event.now.plain.tag) 7 (loads_in c.args.event.now.src.now (slots_of c.args.event.now.plain)) (sym c.has.ensures ∙ c.if-not-has.false) _
+    (type_other (value_in 7 (loads_in c.args.event.now.src.now (slots_of c.args.event.now.plain))) (tag_number c.args.event.now.plain.tag) (tag_not c.args.event.now.plain.tag T.History c.if-eq.ensures) (tag_not c.args.event.now.plain.tag T.Transition c.if-eq-2.ensures))

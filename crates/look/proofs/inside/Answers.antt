@@ -1,9 +1,9 @@
-use mathlib.Core.Path.{refl}
+use mathlib.Core.Path.{sym}
 use Rattle.look.proofs.Laws.{last_none, last_some}
 use Rattle.look.proofs.inside.Goals as goal
 
-pub returns-then-depth-eq0 : goal.returns-then-depth-eq0
-returns-then-depth-eq0 c = last_none c.args.opened.now c.if-depth-eq0.true c.args.c
+pub returns-in-Some : goal.returns-in-Some
+returns-in-Some c = last_some c.args.opened.now c.in-Some.row.now (sym c.in-Some.ensures.value) c.args.c
 
-pub returns : goal.returns
-returns c = last_some c.args.opened.now c.if-depth-eq0.false _ refl c.args.c
+pub returns-in-None : goal.returns-in-None
+returns-in-None c = last_none c.args.opened.now (sym c.in-None.ensures.value) c.args.c

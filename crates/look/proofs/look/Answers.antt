@@ -1,26 +1,23 @@
-use Rattle.look.proofs.Laws.{own_small, found_small, looked_is}
-use Rattle.plain.specs.Plain.{parsed_in}
-use Rattle.plan.specs.declared.Heard.{Heard}
-use Rattle.heard.specs.Heard.{heard_in}
-use mathlib.Core.Path.{ap}
+use mathlib.Core.Path.{ap, ap₂, ◌∙◌}
+use Prim.Native.Nat.{ℕ}
 use native.Mathlib.Omega.{arith}
+use Rattle.definition.specs.Look.{is_innermost}
+use Rattle.plain.specs.Plain.{parsed_in}
+use Rattle.look.specs.Looked.{looked_in}
+use Rattle.look.proofs.Laws.{own_small, found_small, looked_is}
 use Rattle.look.proofs.look.Goals as goal
 
-pub overflow_cast-own : goal.overflow_cast-own
-overflow_cast-own c = omega (arith, own_small c.args.text.now c.args.states.now c.args.position.names (parsed_in c.args.src.now c.args.p) c.requires.states_len_bound.0 _ c.look_names-n.ensures)
+pub overflow_cast-names : goal.overflow_cast-names
+overflow_cast-names c = omega (arith, own_small c.args.used.text.now c.args.used.states.now c.args.position.names _ c.requires.states_len_bound.0 _ c.look_names-names.ensures)
 
-pub overflow_cast-f : goal.overflow_cast-f
-overflow_cast-f c = omega (arith, found_small c.args.text.now c.args.datums.now _ (parsed_in c.args.src.now c.args.p) c.requires.states_len_bound.1 _ c.found-f.ensures)
-
-pub first_no-no-requires : goal.first_no-no-requires
-unfolding heard_in parsed_in
-first_no-no-requires c = (ap (λ (x : Heard). x.tag) c.heard-h.ensures, c.index-all.ensures.keyed_value)
-
-pub charge-c-requires-clause-drawn_le_drawn : goal.charge-c-requires-clause-drawn_le_drawn
-charge-c-requires-clause-drawn_le_drawn c = (c.requires.names_le_drawn, c.is_made-made.ensures)
-
-pub charge-c-requires-clause-values_value : goal.charge-c-requires-clause-values_value
-charge-c-requires-clause-values_value c = (c.index-all.ensures.total_value, c.index-all.ensures.total_bound)
+pub overflow_cast-row : goal.overflow_cast-row
+overflow_cast-row c = omega (arith, found_small c.args.used.text.now c.args.used.datums.now _ _ c.requires.states_len_bound.1 _ c.found-row.ensures)
 
 pub returns : goal.returns
-returns c = looked_is c.args.chart.now c.args.states.now c.args.datums.now c.args.opened.now c.args.open_names.now c.args.text.now c.args.position c.args.src.now c.args.p _ c.look_names-n.ensures _ c.inside.ensures _ c.found-f.ensures _ c.heard-h.ensures _ c.bytes_of.ensures.result_value _ c.is_innermost-inner.ensures _ c.inside-parent.ensures _ c.root_of-root.ensures _ c.first_no-no.ensures _ c.is_made-made.ensures _ c.charge-c.ensures.value
+returns c =
+    looked_is c.args.used.chart.now c.args.used.states.now c.args.used.datums.now c.args.used.opened.now c.args.used.open_names.now c.args.used.text.now c.args.position c.index-event.result.src.now c.index-event.result.plain _
+    c.look_names-names.ensures _ c.inside.ensures _ c.found-row.ensures _ c.heard-heard.ensures _ c.bytes_of.ensures.result_value _
+    (c.is_innermost.ensures ∙ ap (λ (g : ℕ). is_innermost c.args.used.opened.now c.args.used.open_names.now g c.bytes_of.result.now) c.number.ensures) _ c.inside-parent.ensures _ c.root_of-root.ensures _
+    c.first_no.ensures _ c.is_made-made.ensures _ c.charge.ensures.value
+    ∙ ap (looked_in c.args.used.chart.now c.args.used.states.now c.args.used.datums.now c.args.used.opened.now c.args.used.open_names.now c.args.used.text.now c.args.position)
+    (ap₂ parsed_in c.index-event.ensures.src_value c.index-event.ensures.plain_value)

@@ -1,35 +1,34 @@
-use Rattle.names.proofs.Laws.{counting_start, counted_all, counting_more, new_by, word_lies, words_none, words_end}
-use Rattle.definition.specs.Look.{name_cells}
+use mathlib.Core.Path.{refl, ◌∙◌}
 use native.Mathlib.Omega.{arith}
-use mathlib.Core.Path.{refl}
+use Rattle.definition.specs.Look.{name_cells}
+use Rattle.names.proofs.Laws.{counting_start, counting_ends, counting_goes, word_ends, first_zero, first_other, new_by}
+use Rattle.names.proofs.count_names.Goals.{then-own-eq0, else-own-eq0}
 use Rattle.names.proofs.count_names.Goals as goal
 
-pub loop-at-init : goal.loop-at-init
-loop-at-init c = (counting_start c.args.text.now (name_cells c.args.states.now) c.args.v.now, refl)
+pub loop-found-init : goal.loop-found-init
+loop-found-init c =
+    record {
+      can = tt;
+      finite = tt;
+      counted = record { at = 0; left = rw c.into_iter-found-iterator.ensures.into_iter_gives refl; counting = counting_start c.args.text.now (name_cells c.args.states.now) c.args.v.now };
+    }
 
-pub returns-then-start-end : goal.returns-then-start-end
-returns-then-start-end c = let r = counted_all c.args.text.now (name_cells c.args.states.now) c.args.v.now c.loop-at.own c.loop-at.refs c.loop-at.new c.loop-at.at c.loop-at.invariant.0 (words_none c.args.v.now c.loop-at.at c.next_state_word-next.result c.next_state_word-next.ensures c.if-start-end.true) in record { value = r.0; refs_in_bounds = r.1 }
+pub overflow_add-found : goal.overflow_add-found
+overflow_add-found c = omega (arith, word_ends c.args.text.now (name_cells c.args.states.now) c.args.v.now c.loop-found.own c.loop-found.refs c.loop-found.new _ c.loop-found.invariant.counted _ _ c.in-Some.ensures.steps)
 
-pub slice_bounds-w-count : goal.slice_bounds-w-count
-slice_bounds-w-count c = omega (arith, word_lies c.args.v.now c.loop-at.at c.next_state_word-next.result c.next_state_word-next.ensures c.loop-at-test.true)
+pub loop-found-preserved : goal.loop-found-preserved
+loop-found-preserved c =
+    record {
+      can = tt;
+      finite = tt;
+      counted =
+          counting_goes c.args.text.now (name_cells c.args.states.now) c.args.v.now c.loop-found.own c.loop-found.refs c.loop-found.new _ c.loop-found.invariant.counted _ _ c.in-Some.ensures.steps _ c.find_state-k.ensures.value _
+          (elim c.if-own-eq0.branch [
+            | then-own-eq0 w ↦ w.own-is ∙ first_zero _ _ w.if-own-eq0.true
+            | else-own-eq0 w ↦ w.own-is ∙ first_other _ _ w.if-own-eq0.false
+          ])
+          _ (new_by c.args.states.now c.args.text.now _ _ _ c.find_state-k.ensures.value _ refl _ c.new_if-new.ensures.value) c.new_if-new.ensures.upper_bound;
+    }
 
-pub slice_bounds-w-start : goal.slice_bounds-w-start
-slice_bounds-w-start c = omega (arith, word_lies c.args.v.now c.loop-at.at c.next_state_word-next.result c.next_state_word-next.ensures c.loop-at-test.true)
-
-pub slice_bounds-w-end : goal.slice_bounds-w-end
-slice_bounds-w-end c = omega (arith, word_lies c.args.v.now c.loop-at.at c.next_state_word-next.result c.next_state_word-next.ensures c.loop-at-test.true)
-
-pub overflow_add-new : goal.overflow_add-new
-overflow_add-new c = omega (arith, c.loop-at.invariant.0.few, c.loop-at.invariant.0.fewer, c.new_if-new.ensures.upper_bound, c.loop-at-test.true)
-
-pub overflow_add-refs : goal.overflow_add-refs
-overflow_add-refs c = omega (arith, c.loop-at.invariant.0.few, c.loop-at-test.true)
-
-pub loop-at-smaller : goal.loop-at-smaller
-loop-at-smaller c = omega (arith, word_lies c.args.v.now c.loop-at.at c.next_state_word-next.result c.next_state_word-next.ensures c.loop-at-test.true)
-
-pub loop-at-preserved : goal.loop-at-preserved
-loop-at-preserved c = (counting_more c.args.text.now (name_cells c.args.states.now) c.args.v.now c.loop-at.own c.loop-at.refs c.loop-at.new c.loop-at.at c.loop-at.invariant.0 c.next_state_word-next.result c.next_state_word-next.ensures c.if-start-end.false c.loop-at-test.true _ c.find_name-k.ensures.value _ c.first-own.ensures _ (new_by c.args.states.now c.args.text.now _ _ c.find_name-k.result c.find_name-k.ensures.value _ c.loop-at.invariant.1 _ c.new_if-new.ensures.value) c.new_if-new.ensures.upper_bound, c.loop-at.invariant.1)
-
-pub returns : goal.returns
-returns c = let r = counted_all c.args.text.now (name_cells c.args.states.now) c.args.v.now c.loop-at.own c.loop-at.refs c.loop-at.new c.loop-at.at c.loop-at.invariant.0 (words_end c.args.v.now c.loop-at.at c.loop-at-test.false) in record { value = r.0; refs_in_bounds = r.1 }
+pub returns-clause-value : goal.returns-clause-value
+returns-clause-value c = (counting_ends c.args.text.now (name_cells c.args.states.now) c.args.v.now c.loop-found.own c.loop-found.refs c.loop-found.new _ c.loop-found.invariant.counted c.in-None.ensures.steps.0).0

@@ -1,12 +1,13 @@
-use Rattle.names.proofs.Laws.{Counting}
+use Rattle.definition.specs.Text.{is_separator}
 use Rattle.definition.specs.Look.{name_cells}
-use lib.ListN.{length}
-use mathlib.Core.Path.{◌≡◌}
-use Prim.Native.Nat.{◌-◌}
+use Rattle.words.specs.Left.{words_left}
+use Rattle.names.proofs.Laws.{CountingTo}
 use Rattle.names.proofs.count_names.Given as goal
 
-abbrev pub invariant-loop-at : goal.invariant-loop-at
-invariant-loop-at l = Counting l.text (name_cells l.states) l.v l.own l.refs l.new l.at × (l.count ≡ length l.states)
-
-abbrev pub decreases-loop-at : goal.decreases-loop-at
-decreases-loop-at l = length l.v - l.at
+abbrev pub invariant-loop-found : goal.invariant-loop-found
+invariant-loop-found l =
+    record {
+      can : (goal.iterator-loop-found).can_next l.found-iterator;
+      finite : (goal.iterator-loop-found).is_finite l.found-iterator;
+      counted : CountingTo l.text (name_cells l.states) l.v l.own l.refs l.new (words_left is_separator l.found-iterator.v.now l.found-iterator.at);
+    }

@@ -1,23 +1,27 @@
-use Rattle.names.proofs.ApartLaws.{found_apart, none_apart, without_start, without_more}
+use Rattle.std.proofs.Common.{◌+◌, ◌-◌, length, get_or, refl, sym, ◌∙◌, arith}
+use lib.Seq.{take-length}
 use Rattle.names.proofs.LikeLaws.{ending}
-use mathlib.Core.Path.{sym, ◌∙◌}
-use native.Mathlib.Omega.{arith}
+use Rattle.names.proofs.ApartLaws.{found_apart, none_apart, without_start, without_all, without_more, left_cut}
 use Rattle.names.proofs.find_last.Goals as goal
 
 pub loop-k-init : goal.loop-k-init
-loop-k-init c = ((c.last_like-k.ensures.upper_bound, without_start c.args.states.now c.args.count c.args.text.now c.args.w.now _ _ _ _ (ending c.args.text.now c.args.w.now c.requires.in_bounds.0) _ c.last_like-k.ensures.value), ending c.args.text.now c.args.w.now c.requires.in_bounds.0)
+loop-k-init c =
+    record {
+      short = omega arith;
+      cut = sym (take-length c.args.states.now);
+      without = without_start c.args.states.now c.args.text.now c.args.w.now (length c.args.states.now) refl;
+      ending = ending c.args.text.now c.args.w.now c.requires.in_bounds.0;
+    }
 
-pub returns-then-is_at-clause-value : goal.returns-then-is_at-clause-value
-returns-then-is_at-clause-value c = found_apart c.args.states.now c.args.count c.args.text.now c.args.w.now c.requires.count_in_bounds c.requires.states_value _ (omega (arith, c.loop-k-test.true, c.loop-k.invariant.0.0)) (sym c.is_at.ensures ∙ c.if-is_at.true)
-
-pub returns-then-is_at-clause-upper_bound : goal.returns-then-is_at-clause-upper_bound
-returns-then-is_at-clause-upper_bound c = omega (arith, c.loop-k.invariant.0.0)
+pub returns-then-is_named : goal.returns-then-is_named
+returns-then-is_named c = found_apart c.args.states.now c.args.text.now c.args.w.now c.requires.states_value c.in-Some.k (omega (arith, c.in-Some.ensures.0, c.loop-k.invariant.short)) (sym c.is_named.ensures ∙ c.if-is_named.true)
 
 pub loop-k-preserved : goal.loop-k-preserved
-loop-k-preserved c = ((omega (arith, c.last_like-k-in-loop-k.ensures.upper_bound, c.loop-k.invariant.0.0), without_more c.args.states.now c.args.count c.args.text.now c.args.w.now _ _ _ _ c.loop-k.invariant.1 c.loop-k.k _ c.loop-k-test.true c.loop-k.invariant.0.1 (sym c.is_at.ensures ∙ c.if-is_at.false) c.last_like-k-in-loop-k.ensures.value), c.loop-k.invariant.1)
+loop-k-preserved c =
+    let r =
+    left_cut c.args.states.now c.args.text.now c.args.w.now (length c.loop-k.rest.now) c.loop-k.rest.now c.loop-k.invariant.cut refl c.loop-k.invariant.short c.in-Some.k c.in-Some.ensures.0
+    (without_more c.args.states.now c.args.text.now c.args.w.now (length c.args.w.now - 2) (get_or c.args.w.now (length c.args.w.now - 2) 0) (get_or c.args.w.now (length c.args.w.now - 2 + 1) 0) _ c.loop-k.invariant.ending (length c.loop-k.rest.now) c.loop-k.rest.now c.loop-k.invariant.cut refl c.loop-k.invariant.without c.in-Some.k c.in-Some.ensures.1 (sym c.is_named.ensures ∙ c.if-is_named.false)) in
+    record { short = r.0; cut = r.1; without = r.2; ending = c.loop-k.invariant.ending }
 
-pub returns-clause-value : goal.returns-clause-value
-returns-clause-value c = none_apart c.args.states.now c.args.count c.args.text.now c.args.w.now c.requires.count_in_bounds c.loop-k.k c.loop-k-test.false c.loop-k.invariant.0.1
-
-pub returns-clause-upper_bound : goal.returns-clause-upper_bound
-returns-clause-upper_bound c = omega arith
+pub returns : goal.returns
+returns c = none_apart c.args.states.now c.args.text.now c.args.w.now (without_all c.args.states.now c.args.text.now c.args.w.now (length c.args.w.now - 2) (get_or c.args.w.now (length c.args.w.now - 2) 0) (get_or c.args.w.now (length c.args.w.now - 2 + 1) 0) _ c.loop-k.invariant.ending (length c.loop-k.rest.now) c.loop-k.rest.now c.loop-k.invariant.cut refl c.loop-k.invariant.without c.in_default.ensures)

@@ -1,17 +1,7 @@
-use Rattle.names.proofs.Laws.{row_found, row_passed, rows_end}
-use mathlib.Core.Path.{sym, ◌∙◌}
-use native.Mathlib.Omega.{arith}
-use borrow.Author.Rules.{rules}
+use mathlib.Core.Path.{ap, ◌∙◌}
+use Rattle.std.proofs.Common.{Option, ℕ, unwrap_or, length}
+use Rattle.names.proofs.Laws.{named_at}
 use Rattle.names.proofs.find_short.Goals as goal
 
-pub loop-i-init : goal.loop-i-init
-loop-i-init c = (search rules, omega arith)
-
-pub returns-then-is_at-clause-value : goal.returns-then-is_at-clause-value
-returns-then-is_at-clause-value c = row_found c.args.states.now c.args.count c.requires c.args.text.now c.args.w.now c.loop-i.i c.loop-i-test.true c.loop-i.invariant.1 (sym c.is_at.ensures ∙ c.if-is_at.true)
-
-pub loop-i-preserved : goal.loop-i-preserved
-loop-i-preserved c = (search rules, row_passed c.args.states.now c.args.count c.requires c.args.text.now c.args.w.now c.loop-i.i c.loop-i-test.true c.loop-i.invariant.1 (sym c.is_at.ensures ∙ c.if-is_at.false))
-
-pub returns-clause-value : goal.returns-clause-value
-returns-clause-value c = rows_end c.args.states.now c.args.count c.requires c.args.text.now c.args.w.now c.loop-i.i c.loop-i-test.false c.loop-i.invariant.1
+pub returns : goal.returns
+returns c = c.unwrap_or.ensures ∙ ap (λ (o : Option ℕ). unwrap_or o (length c.args.states.now)) c.first_named.ensures ∙ named_at c.args.text.now c.args.w.now c.args.states.now

@@ -1,18 +1,18 @@
-use Rattle.names.proofs.ApartLaws.{near_found, found_apart}
-use Rattle.names.proofs.LikeLaws.{long_enough_lem}
-use native.Mathlib.Omega.{arith}
+use Rattle.std.proofs.Common.{List, [], ℕ, ap, sym, ◌∙◌, arith}
+use Rattle.definition.specs.Rows.{text_at, cell_at}
+use Rattle.definition.specs.Text.{same}
+use Rattle.definition.specs.Look.{name_cells}
+use Rattle.definition.proofs.Finds.{find_le, cells_length}
+use Rattle.names.proofs.ApartLaws.{found_apart}
 use Rattle.names.proofs.find_state.Goals as goal
 
-pub returns-then-is_row : goal.returns-then-is_row
-returns-then-is_row c =
-    let x = near_found c.args.states.now c.args.count c.args.text.now c.args.w.now c.args.near _ c.is_row.ensures c.if-is_row.true in
-    record { value = found_apart c.args.states.now c.args.count c.args.text.now c.args.w.now c.requires.count_in_bounds c.requires.states_value c.args.near x.0 x.1; upper_bound = omega (arith, x.0) }
+pub returns-then-is_named-clause-value : goal.returns-then-is_named-clause-value
+returns-then-is_named-clause-value c =
+    found_apart c.args.states.now c.args.text.now c.args.w.now c.requires c.args.near c.in-Some.ensures.lookup.3.0
+    (ap (λ (r : List ℕ). same (text_at c.args.text.now (cell_at r 0)) c.args.w.now) (sym (c.in-Some.ensures.lookup.3.1 [])) ∙ sym c.is_named.ensures ∙ c.if-is_named.true)
 
-pub find_last-requires-clause-count_in_bounds : goal.find_last-requires-clause-count_in_bounds
-find_last-requires-clause-count_in_bounds c = c.requires.count_in_bounds
+pub returns-then-w-text-clause-upper_bound : goal.returns-then-w-text-clause-upper_bound
+returns-then-w-text-clause-upper_bound c = omega (arith, c.find_short.ensures, find_le c.args.text.now (name_cells c.args.states.now) c.args.w.now, cells_length c.args.states.now)
 
-pub find_last-requires-clause-in_bounds : goal.find_last-requires-clause-in_bounds
-find_last-requires-clause-in_bounds c = long_enough_lem _ _ c.if-w-text.false
-
-pub find_last-requires-clause-states_value : goal.find_last-requires-clause-states_value
-find_last-requires-clause-states_value c = c.requires.states_value
+pub returns-clause-upper_bound : goal.returns-clause-upper_bound
+returns-clause-upper_bound c = omega (arith, c.find_last.ensures, find_le c.args.text.now (name_cells c.args.states.now) c.args.w.now, cells_length c.args.states.now)

@@ -1,22 +1,25 @@
 use Rattle.names.proofs.FoundNames.{names_end, names_state_lem, names_transition, names_other}
-use Rattle.plain.proofs.ValueLaws.{keyed_value}
-use Rattle.plain.specs.Plain.{slots_of, parsed_in}
+use Rattle.plain.proofs.Codes.{kind_is, kind_not, tag_is, tag_not}
+use mathlib.Core.Path.{ap, ◌∙◌}
+use Rattle.definition.specs.Elements.{names_state}
+use Rattle.definition.specs.declared.codes.Kind.TheVariants as K
+use Rattle.definition.specs.declared.codes.Tag.TheVariants as T
+use Rattle.plain.specs.Plain.{parsed_in}
 use Rattle.definition.specs.Look.{name_cells}
-use native.Mathlib.Omega.{arith}
 use Rattle.names.proofs.look_names.Goals as goal
 
-pub returns-then-p-eq-END : goal.returns-then-p-eq-END
+pub returns-then-eq : goal.returns-then-eq
 unfolding parsed_in
-returns-then-p-eq-END c = names_end c.args.drawn (parsed_in c.args.src.now c.args.p) c.args.text.now (name_cells c.args.states.now) _ c.if-p-eq-END.true c.none.ensures
+returns-then-eq c = names_end c.args.drawn (parsed_in c.args.event.now.src.now c.args.event.now.plain) c.args.text.now (name_cells c.args.states.now) _ (kind_is c.args.event.now.plain.kind K.End c.if-eq.ensures) c.none.ensures
 
 pub returns-then-names_state : goal.returns-then-names_state
 unfolding parsed_in
-returns-then-names_state c = names_state_lem c.args.drawn (parsed_in c.args.src.now c.args.p) c.args.text.now (name_cells c.args.states.now) _ c.if-p-eq-END.false _ c.names_state.ensures c.if-names_state.true c.look_state.ensures
+returns-then-names_state c = names_state_lem c.args.drawn (parsed_in c.args.event.now.src.now c.args.event.now.plain) c.args.text.now (name_cells c.args.states.now) _ (kind_not c.args.event.now.plain.kind K.End c.if-eq.ensures) _ (c.names_state.ensures ∙ ap names_state c.number.ensures) c.if-names_state.true c.look_state.ensures
 
-pub returns-then-p-eq-TRANSITION : goal.returns-then-p-eq-TRANSITION
+pub returns-then-eq-2 : goal.returns-then-eq-2
 unfolding parsed_in
-returns-then-p-eq-TRANSITION c = names_transition c.args.drawn (parsed_in c.args.src.now c.args.p) c.args.text.now (name_cells c.args.states.now) _ c.if-p-eq-END.false _ c.names_state.ensures c.if-names_state.false c.if-p-eq-TRANSITION.true _ (keyed_value c.args.src.now 17 (omega arith) (slots_of c.args.p) _ c.requires.drawn_le_drawn.1 _ c.value.ensures.result_value) c.count_names.ensures.value
+returns-then-eq-2 c = names_transition c.args.drawn (parsed_in c.args.event.now.src.now c.args.event.now.plain) c.args.text.now (name_cells c.args.states.now) _ (kind_not c.args.event.now.plain.kind K.End c.if-eq.ensures) _ (c.names_state.ensures ∙ ap names_state c.number.ensures) c.if-names_state.false (tag_is c.args.event.now.plain.tag T.Transition c.if-eq-2.ensures) _ c.value.ensures.result_value c.count_names.ensures.value
 
 pub returns : goal.returns
 unfolding parsed_in
-returns c = names_other c.args.drawn (parsed_in c.args.src.now c.args.p) c.args.text.now (name_cells c.args.states.now) _ c.if-p-eq-END.false _ c.names_state.ensures c.if-names_state.false c.if-p-eq-TRANSITION.false c.none-2.ensures
+returns c = names_other c.args.drawn (parsed_in c.args.event.now.src.now c.args.event.now.plain) c.args.text.now (name_cells c.args.states.now) _ (kind_not c.args.event.now.plain.kind K.End c.if-eq.ensures) _ (c.names_state.ensures ∙ ap names_state c.number.ensures) c.if-names_state.false (tag_not c.args.event.now.plain.tag T.Transition c.if-eq-2.ensures) c.none-2.ensures

@@ -1,6 +1,5 @@
 use Rattle.names.proofs.FoundNames.{own_given, own_made}
 use Rattle.written.proofs.GeneratedLaw.{made_fits, made_name}
-use Rattle.plain.proofs.ValueLaws.{marked_has, keyed_value}
 use Rattle.plain.specs.Plain.{slots_of, loads_in, parsed_in}
 use Rattle.definition.specs.Look.{name_cells}
 use Rattle.definition.specs.Text.{generated_name}
@@ -13,11 +12,11 @@ use Rattle.names.proofs.look_state.Goals as goal
 
 pub returns-then-has : goal.returns-then-has
 unfolding parsed_in
-returns-then-has c = own_given c.args.text.now (name_cells c.args.states.now) c.args.drawn (loads_in c.args.src.now (slots_of c.args.p)) _ (marked_has c.args.src.now 1 (omega arith) (slots_of c.args.p) _ c.requires.drawn_le_drawn.1 _ c.has.ensures) _ (keyed_value c.args.src.now 2 (omega arith) (slots_of c.args.p) _ c.requires.drawn_le_drawn.1 _ c.value-initial.ensures.result_value) _ c.if-has.true _ (keyed_value c.args.src.now 1 (omega arith) (slots_of c.args.p) _ c.requires.drawn_le_drawn.1 _ c.value-id.ensures.result_value) c.count_with.ensures
+returns-then-has c = own_given c.args.text.now (name_cells c.args.states.now) c.args.drawn (loads_in c.args.event.now.src.now (slots_of c.args.event.now.plain)) _ c.has.ensures _ c.value-initial.ensures.result_value _ c.if-has.true _ c.value.ensures.result_value c.count_with.ensures
 
 pub slice_bounds-count_with-end : goal.slice_bounds-count_with-end
 slice_bounds-count_with-end c = omega (arith, made_fits (c.args.drawn + 1) (replicate 24 0) refl c.put_generated-n.result c.put_generated-n.ensures.value)
 
 pub returns : goal.returns
 unfolding parsed_in
-returns c = own_made c.args.text.now (name_cells c.args.states.now) c.args.drawn (loads_in c.args.src.now (slots_of c.args.p)) _ (marked_has c.args.src.now 1 (omega arith) (slots_of c.args.p) _ c.requires.drawn_le_drawn.1 _ c.has.ensures) _ (keyed_value c.args.src.now 2 (omega arith) (slots_of c.args.p) _ c.requires.drawn_le_drawn.1 _ c.value-initial.ensures.result_value) _ c.if-has.false _ (made_name (c.args.drawn + 1) (replicate 24 0) refl c.put_generated-n.result c.put_generated-n.ensures.value _ c.put_generated-n.ensures.out_after ∙ ap generated_name (add-one c.args.drawn)) c.count_with-2.ensures
+returns c = own_made c.args.text.now (name_cells c.args.states.now) c.args.drawn (loads_in c.args.event.now.src.now (slots_of c.args.event.now.plain)) _ c.has.ensures _ c.value-initial.ensures.result_value _ c.if-has.false _ (made_name (c.args.drawn + 1) (replicate 24 0) refl c.put_generated-n.result c.put_generated-n.ensures.value _ c.put_generated-n.ensures.out_after ∙ ap generated_name (add-one c.args.drawn)) c.count_with-2.ensures

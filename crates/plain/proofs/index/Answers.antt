@@ -10,7 +10,7 @@ pub overflow_add-total : goal.overflow_add-total
 overflow_add-total c = omega (arith, c.loop-i.invariant.bound, c.bytes_of.ensures.result_len_bound)
 
 pub loop-i-preserved : goal.loop-i-preserved
-loop-i-preserved c = indexing_more c.args.p.slots c.args.p.count c.well_formed.1.0.1.1.1.1.1.1.1.0.1.0.1 c.args.src.now c.loop-i.there c.loop-i.at c.loop-i.len c.loop-i.total c.loop-i.i c.loop-i.invariant _ c.loop-i-test.true refl _ c.key_place-k.ensures.value _ c.bytes_of.ensures.result_value c.bytes_of.ensures.result_len_bound
+loop-i-preserved c = indexing_more c.args.p.slots c.args.p.count c.well_formed.1.0.1.1.1.1.1.1.1.0.1.0.1 c.args.src.now c.loop-i.there c.loop-i.at c.loop-i.len c.loop-i.total c.loop-i.i c.loop-i.invariant _ c.loop-i-test.true refl _ c.place_of-k.ensures.value _ c.bytes_of.ensures.result_value c.bytes_of.ensures.result_len_bound
 
-pub returns : goal.returns
-returns c = let r = indexing_end c.args.p.slots c.args.p.count c.well_formed.1.0.1.1.1.1.1.1.1.0.1.0.1 c.args.src.now c.loop-i.there c.loop-i.at c.loop-i.len c.loop-i.total c.loop-i.i c.loop-i.invariant c.loop-i-test.false in record { keyed_value = r.0; total_value = r.1.0; total_bound = r.1.1 }
+pub invariant_of-result : goal.invariant_of-result
+invariant_of-result c = let r = indexing_end c.args.p.slots c.args.p.count c.well_formed.1.0.1.1.1.1.1.1.1.0.1.0.1 c.args.src.now c.loop-i.there c.loop-i.at c.loop-i.len c.loop-i.total c.loop-i.i c.loop-i.invariant c.loop-i-test.false in record { keyed = r.0; summed = r.1.0; bounded = r.1.1 }

@@ -15,19 +15,19 @@ returns-in-State c = λ n ch st tr re en iv da pa me. rw c.in-State.is (c.at.ens
 
 pub returns-in-Transition : goal.returns-in-Transition
 unfolding state_kept has_own_number among
-returns-in-Transition c = λ n ch st tr re en iv da pa me. rw c.in-Transition.is (c.read_transition.ensures ∙ any_states c.args.used.states.now _ _ ∙ own_read n 2 c.args.number st tr refl refl refl refl refl)
+returns-in-Transition c = λ n ch st tr re en iv da pa me. rw c.in-Transition.is (c.read_own.ensures ∙ any_states c.args.used.states.now _ _ ∙ own_read n 2 c.args.number st tr refl refl refl refl refl)
 
 pub returns-in-Region : goal.returns-in-Region
 unfolding state_kept has_own_number among
-returns-in-Region c = λ n ch st tr re en iv da pa me. rw c.in-Region.is (c.read_region.ensures ∙ any_states c.args.used.states.now _ _ ∙ own_read n 3 c.args.number st re refl refl refl refl refl)
+returns-in-Region c = λ n ch st tr re en iv da pa me. rw c.in-Region.is (c.read_own-in-Region.ensures ∙ any_states c.args.used.states.now _ _ ∙ own_read n 3 c.args.number st re refl refl refl refl refl)
 
 pub returns-in-Entry : goal.returns-in-Entry
 unfolding state_kept has_own_number among
-returns-in-Entry c = λ n ch st tr re en iv da pa me. rw c.in-Entry.is (c.entry_at.ensures ∙ plain_read n 4 c.args.number st en refl refl refl refl c.place_in-in-Entry.ensures.value refl)
+returns-in-Entry c = λ n ch st tr re en iv da pa me. rw c.in-Entry.is (c.named_at.ensures ∙ plain_read n 4 c.args.number st en refl refl refl refl c.place_in-place.ensures.value refl)
 
 pub returns-in-Invoke : goal.returns-in-Invoke
 unfolding state_kept has_own_number among
-returns-in-Invoke c = λ n ch st tr re en iv da pa me. rw c.in-Invoke.is (c.invoke_at.ensures ∙ plain_read n 5 c.args.number st iv refl refl refl refl c.place_in-in-Invoke.ensures.value refl)
+returns-in-Invoke c = λ n ch st tr re en iv da pa me. rw c.in-Invoke.is (c.named_at-in-Invoke.ensures ∙ plain_read n 5 c.args.number st iv refl refl refl refl c.place_in-place-in-Invoke.ensures.value refl)
 
 pub returns-in-Datum : goal.returns-in-Datum
 unfolding state_kept has_own_number among

@@ -1,4 +1,4 @@
-use Rattle.columns.proofs.Columns.{all, columns_all, spares_all}
+use Rattle.columns.proofs.Columns.{all, columns_all, spares_all, zeros_part}
 use Rattle.definition.specs.Rows.{opened_columns}
 use native.Mathlib.Omega.{arith}
 use lib.Dec.{leb-zero}
@@ -9,4 +9,4 @@ use Rattle.rules.proofs.opened_keeps.Goals as goal
 
 pub returns : goal.returns
 unfolding opened_columns all keeps chosen is_row is_row_or_zero has_own_number among following
-returns c = λ s e. rw (columns_all s c.args.row opened_columns (omega (arith, c.well_formed.0.1)), spares_all s c.args.row 4 4) (simp (and_true, leb-zero, c.state_or_zero.ensures, c.transition_or_zero.ensures, c.zeros.ensures, e.states, e.transitions))
+returns c = λ s e. rw (columns_all s c.args.row opened_columns (omega (arith, c.well_formed.0.1)), spares_all s c.args.row 4 4) (simp (and_true, leb-zero, c.state_or_zero.ensures, c.transition_or_zero.ensures, zeros_part c.args.row 4 4 (omega (arith, c.well_formed.0.1)) c.zeros.ensures, e.states, e.transitions))

@@ -1,4 +1,4 @@
-use Rattle.columns.proofs.Columns.{all, columns_all, spares_all}
+use Rattle.columns.proofs.Columns.{all, columns_all, spares_all, zeros_part}
 use Rattle.definition.specs.Rows.{region_columns}
 use native.Mathlib.Omega.{arith}
 use lib.Dec.{leb-zero}
@@ -9,4 +9,4 @@ use Rattle.rules.proofs.region_keeps.Goals as goal
 
 pub returns : goal.returns
 unfolding region_columns all keeps chosen is_row is_row_or_zero has_own_number among following
-returns c = λ s e. rw (columns_all s c.args.row region_columns (omega (arith, c.well_formed.0.1)), spares_all s c.args.row 1 7) (simp (and_true, leb-zero, c.zeros.ensures, e.ids))
+returns c = λ s e. rw (columns_all s c.args.row region_columns (omega (arith, c.well_formed.0.1)), spares_all s c.args.row 1 7) (simp (and_true, leb-zero, zeros_part c.args.row 1 7 (omega (arith, c.well_formed.0.1)) c.zeros.ensures, e.ids))

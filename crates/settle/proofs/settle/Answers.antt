@@ -1,9 +1,7 @@
-use Rattle.std.proofs.Common.{Ok, sym, ap, ◌∙◌}
 use native.Mathlib.Omega.{arith}
 use Rattle.plain.specs.Plain.{parsed_in}
-use Rattle.settle.proofs.Law.{looked, seen, few_enough, charge_small, small_enough, brings, settles}
+use Rattle.settle.proofs.Law.{looked, seen, few_enough, charge_small, small_enough, brings, settles, refused}
 use Rattle.settle.proofs.settle.Goals as goal
-use Rattle.settle.proofs.settle.Goals.{in-Ok, in-Err}
 
 pub look-l-requires : goal.look-l-requires
 look-l-requires c =
@@ -11,13 +9,21 @@ look-l-requires c =
     record { states_len_bound = r.0; names_le_drawn = r.1.0; states_value = r.1.1 }
 
 pub decide-d-requires : goal.decide-d-requires
+unfolding parsed_in
 decide-d-requires c = small_enough c.args.tables c.args.p (parsed_in c.args.src.now c.args.pl) c.requires _ (looked c.in_use-used.ensures _ c.look-l.ensures) _ (seen c.in_use-used.ensures _ _ _ c.see-v.ensures)
 
 pub decided-requires : goal.decided-requires
+unfolding parsed_in
 decided-requires c = brings c.args.tables c.args.p (parsed_in c.args.src.now c.args.pl) c.requires _ (looked c.in_use-used.ensures _ c.look-l.ensures) _ (seen c.in_use-used.ensures _ _ _ c.see-v.ensures) _ c.decide-d.ensures
 
 pub overflow_cast-result : goal.overflow_cast-result
+unfolding parsed_in
 overflow_cast-result c = omega (arith, charge_small c.args.tables c.args.p (parsed_in c.args.src.now c.args.pl) c.requires _ (looked c.in_use-used.ensures _ c.look-l.ensures))
 
-pub returns : goal.returns
-returns c = settles c.args.tables c.args.p (parsed_in c.args.src.now c.args.pl) _ (looked c.in_use-used.ensures _ c.look-l.ensures) _ (seen c.in_use-used.ensures _ _ _ c.see-v.ensures) _ c.decide-d.ensures _ _ (elim c.match-decided.branch [ in-Ok w ↦ ap (λ z. z.0) w.number-is ∙ sym w.in-Ok.ensures.0 | in-Err w ↦ ap (λ z. z.0) w.number-is ∙ w.in-Err.ensures.0 ]) (elim c.match-decided.branch [ in-Ok w ↦ λ e. w.in-Ok.ensures.1 ∙ ap Ok (sym (ap (λ z. z.1) w.number-is)) | in-Err w ↦ λ e. absurd (omega (arith, e, ap (λ z. z.0) w.number-is, w.in-Err.ensures.1)) ])
+pub returns-in-Err : goal.returns-in-Err
+unfolding parsed_in
+returns-in-Err c = refused c.args.tables c.args.p (parsed_in c.args.src.now c.args.pl) _ (looked c.in_use-used.ensures _ c.look-l.ensures) _ (seen c.in_use-used.ensures _ _ _ c.see-v.ensures) _ c.decide-d.ensures c.in-Err.refusal c.in-Err.ensures
+
+pub returns-in-Ok : goal.returns-in-Ok
+unfolding parsed_in
+returns-in-Ok c = settles c.args.tables c.args.p (parsed_in c.args.src.now c.args.pl) _ (looked c.in_use-used.ensures _ c.look-l.ensures) _ (seen c.in_use-used.ensures _ _ _ c.see-v.ensures) _ c.decide-d.ensures c.in-Ok.plan c.in-Ok.ensures.0 c.in-Ok.ensures.1

@@ -1,4 +1,4 @@
-use mathlib.Core.Path.{◌≡◌, refl, sym, ap, ◌∙◌}
+use mathlib.Core.Path.{◌≡◌, sym, ap, ◌∙◌}
 use borrow.Author.Rules.{rules}
 use native.Mathlib.Omega.{arith}
 use Rattle.std.proofs.Common.{ℕ, Result, Err}
@@ -13,7 +13,7 @@ use Rattle.streams.proofs.Laws.{ran_first, goes_on, stays_in, taken_apart, ran_m
 use Rattle.streams.proofs.feed_all.Goals as goal
 
 pub loop-i-init : goal.loop-i-init
-loop-i-init c = record { loans = search rules; ran = ran_first c.requires; pairs = refl }
+loop-i-init c = record { loans = search rules; ran = ran_first c.requires }
 
 pub overflow_add-n : goal.overflow_add-n
 overflow_add-n c = omega (arith, c.loop-i-test.true, c.loop-i.invariant.ran.few)
@@ -44,7 +44,7 @@ pub loop-i-smaller : goal.loop-i-smaller
 loop-i-smaller c = omega (arith, goes_on c.loop-i.invariant.ran c.loop-i-test.true c.describe_next-x.ensures.end, c.loop-i-test.true)
 
 pub loop-i-preserved : goal.loop-i-preserved
-loop-i-preserved c = record { loans = search rules; ran = ran_more c.loop-i.invariant.ran c.loop-i-test.true c.describe_next-x.ensures.end c.part_of-raw.ensures c.feed-a.ensures.answer c.if-a-ne0.false; pairs = search rules }
+loop-i-preserved c = record { loans = search rules; ran = ran_more c.loop-i.invariant.ran c.loop-i-test.true c.describe_next-x.ensures.end c.part_of-raw.ensures c.feed-a.ensures.answer c.if-a-ne0.false }
 
 pub returns-clause-stream : goal.returns-clause-stream
 returns-clause-stream c = ran_last c.loop-i.invariant.ran c.loop-i-test.false

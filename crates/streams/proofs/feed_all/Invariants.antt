@@ -1,5 +1,4 @@
 use Prim.Native.Nat.{◌-◌}
-use mathlib.Core.Path.{◌≡◌}
 use lib.ListN.{length}
 use Rattle.rows.specs.Lent.{lent_of, SameLoans}
 use Rattle.streams.proofs.Laws.{Ran}
@@ -10,7 +9,6 @@ invariant-loop-i l =
     record {
       loans : SameLoans l.initial.lent l.lent;
       ran : Ran (lent_of l.initial.lent) l.initial.q l.bytes (lent_of l.lent) l.q l.i l.n;
-      pairs : length l.pairs ≡ 16;
     }
 
 abbrev pub decreases-loop-i : goal.decreases-loop-i

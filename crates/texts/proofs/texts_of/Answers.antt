@@ -1,3 +1,4 @@
+use Rattle.definition.specs.Codes.{kind_number, tag_number}
 use Rattle.std.proofs.Common.{◌≡◌, ◌+◌, ◌-◌, ◌∙◌, ap, take, arith}
 use Rattle.plain.specs.Plain.{loads_in, text_if}
 use Rattle.fill.specs.Fill.{cell, as_cell}
@@ -28,4 +29,4 @@ returns c =
     let empty = c.text_between-nothing.ensures ∙ ap (cell (c.args.base + 1)) z in
     texts_all c.args.src.now c.args.p c.args.base c.args.e c.requires.1 _ c.bytes_of-text.ensures.result_value c.args.made _ _ _ _ _ _ _
     (c.value_texts.ensures ∙ ap (texts_in c.args.base (loads_in c.args.src.now (take c.args.p.count c.args.p.slots))) c.requires.0) c.put_own.ensures c.put_made.ensures c.trimmed_cell-a.ensures
-    c.quoted_cell-q.ensures (c.trimmed_cell-c.ensures ∙ ap (trimmed_of c.args.p.tag c.args.e.values (text_if c.args.p.kind c.bytes_of-text.result.now)) empty) c.close_texts.ensures
+    c.quoted_cell-q.ensures (c.trimmed_cell-c.ensures ∙ ap (trimmed_of (tag_number c.args.p.tag) c.args.e.values (text_if (kind_number c.args.p.kind) c.bytes_of-text.result.now)) empty) c.close_texts.ensures

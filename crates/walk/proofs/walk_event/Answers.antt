@@ -14,4 +14,4 @@ pub returns-in_err-n : goal.returns-in_err-n
 returns-in_err-n c = rw c.from_residual-in_err-n.ensures (name_lost c.args.stream.now (lined kind_code (Some c.in_ok-e.e)) c.in_ok-e.ensures refl (lined tag_number None) c.in_err-n.ensures refl)
 
 pub walk_pairs-requires : goal.walk_pairs-requires
-walk_pairs-requires c = let r = name_reached c.args.stream.now (lined kind_code (Some c.in_ok-e.e)) c.in_ok-e.ensures refl (lined tag_number (Some c.in_ok-n.n)) c.in_ok-n.ensures refl in record { pairs_len = c.requires; next_nonzero = r.0; reached = r.1 }
+walk_pairs-requires c = let r = name_reached c.args.stream.now (lined kind_code (Some c.in_ok-e.e)) c.in_ok-e.ensures refl (lined tag_number (Some c.in_ok-n.n)) c.in_ok-n.ensures refl in record { next_nonzero = r.0; reached = r.1 }

@@ -1,29 +1,18 @@
-use Rattle.words.proofs.Ends.{events_all, events_end, word_lies, found_star, found_none}
-use mathlib.Core.Path.{sym, ◌∙◌}
-use native.Mathlib.Omega.{arith}
+use mathlib.Core.Path.{◌≡◌, refl}
+use mathlib.Core.Bool.{true, false}
+use borrow.Author.Tests.{tests}
 use borrow.Author.Rules.{rules}
+use Rattle.std.proofs.lemmas.Iterator.{cases_from_any}
+use Rattle.std.proofs.lemmas.Iterator.Consumers.{YieldsList-from_first}
+use Rattle.definition.specs.Text.{is_space, event_words, words_by}
+use Rattle.words.specs.Left.{words_left}
+use Rattle.words.proofs.Starred.{starred, star_any}
 use Rattle.words.proofs.is_wildcard.Goals as goal
 
-pub loop-at-init : goal.loop-at-init
-loop-at-init c = (search rules, events_all _)
-
-pub slice_bounds-is_star-count : goal.slice_bounds-is_star-count
-slice_bounds-is_star-count c = omega (arith, word_lies c.args.v.now _ c.next_event_word-w.result c.next_event_word-w.ensures c.loop-at-test.true)
-
-pub slice_bounds-is_star-start : goal.slice_bounds-is_star-start
-slice_bounds-is_star-start c = omega (arith, word_lies c.args.v.now _ c.next_event_word-w.result c.next_event_word-w.ensures c.loop-at-test.true)
-
-pub slice_bounds-is_star-end : goal.slice_bounds-is_star-end
-slice_bounds-is_star-end c = omega (arith, word_lies c.args.v.now _ c.next_event_word-w.result c.next_event_word-w.ensures c.loop-at-test.true)
-
-pub returns-then-is_star : goal.returns-then-is_star
-returns-then-is_star c = sym (found_star c.args.v.now _ c.next_event_word-w.result c.next_event_word-w.ensures _ c.is_star.ensures c.if-is_star.true) ∙ c.loop-at.invariant.1
-
-pub loop-at-smaller : goal.loop-at-smaller
-loop-at-smaller c = omega (arith, word_lies c.args.v.now _ c.next_event_word-w.result c.next_event_word-w.ensures c.loop-at-test.true)
-
-pub loop-at-preserved : goal.loop-at-preserved
-loop-at-preserved c = (omega (arith, word_lies c.args.v.now _ c.next_event_word-w.result c.next_event_word-w.ensures c.loop-at-test.true), found_none c.args.v.now _ c.next_event_word-w.result c.next_event_word-w.ensures _ c.is_star.ensures c.if-is_star.false ∙ c.loop-at.invariant.1)
-
 pub returns : goal.returns
-returns c = sym (events_end _ _ c.loop-at-test.false) ∙ c.loop-at.invariant.1
+unfolding event_words words_by words_left
+returns c =
+    star_any _ _
+    (cases_from_any c.any.new.self _ _ (λ p. starred p ≡ true) (λ p. starred p ≡ false) c.any.ensures.ran
+    (YieldsList-from_first (λ w. record { off = w.off; word = w.word.now }) (λ s. words_left is_space s.v.now s.at) (words_left is_space c.args.v.now 0) refl)
+    (λ x q k. search (rules, tests)) (λ x q k. search (rules, tests)))

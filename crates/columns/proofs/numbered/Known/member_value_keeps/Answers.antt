@@ -15,11 +15,11 @@ returns-in-Children c = λ s e x vs q. let k : list_number c.in-Ok.list ≡ c.ar
 
 pub returns-in-Onentry : goal.returns-in-Onentry
 unfolding choices keeps is_row is_row_or_zero has_own_number among
-returns-in-Onentry c = λ s e x vs q. let k : list_number c.in-Ok.list ≡ c.args.list = c.in-Ok.ensures in rw (← k, value_region _ c.in-Onentry.is) (simp (c.is_region.ensures, e.regions))
+returns-in-Onentry c = λ s e x vs q. let k : list_number c.in-Ok.list ≡ c.args.list = c.in-Ok.ensures in rw (← k, value_region _ c.in-Onentry.is) (simp (c.is_numbered.ensures, e.regions))
 
 pub returns-in-Transitions : goal.returns-in-Transitions
 unfolding choices keeps is_row is_row_or_zero has_own_number among
-returns-in-Transitions c = λ s e x vs q. let k : list_number c.in-Ok.list ≡ c.args.list = c.in-Ok.ensures in rw (← k, c.in-Transitions.is) (simp (c.is_transition.ensures, e.transitions))
+returns-in-Transitions c = λ s e x vs q. let k : list_number c.in-Ok.list ≡ c.args.list = c.in-Ok.ensures in rw (← k, c.in-Transitions.is) (simp (c.is_numbered-in-Transitions.ensures, e.transitions))
 
 pub returns-in_default-list : goal.returns-in_default-list
 unfolding choices keeps is_row is_row_or_zero has_own_number among

@@ -1,0 +1,5 @@
+use Rattle.printing.proofs.Laws.{line_put}
+use Rattle.printing.proofs.page.Page.put_list_line.Goals as goal
+
+pub returns : goal.returns
+returns c = line_put c.put_bytes.ensures c.put_list.ensures c.put_bytes-2.ensures

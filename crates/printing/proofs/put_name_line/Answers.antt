@@ -1,5 +1,0 @@
-use Rattle.printing.proofs.Laws.{added_line}
-use Rattle.printing.proofs.put_name_line.Goals as goal
-
-pub returns : goal.returns
-returns c = added_line c.put_bytes-p.ensures c.put_escaped-q.ensures c.put_bytes.ensures

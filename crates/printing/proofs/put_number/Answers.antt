@@ -1,7 +1,0 @@
-use mathlib.Core.Path.{◌∙◌}
-use Rattle.printing.proofs.Laws.{added_is}
-use Rattle.written.proofs.Decimal.{decimal_is}
-use Rattle.printing.proofs.put_number.Goals as goal
-
-pub returns : goal.returns
-returns c = added_is (c.as_bytes.ensures.value ∙ (c.format.ensures.text ∙ decimal_is c.args.n c.ranges.n.fits)) c.put_bytes.ensures

@@ -1,0 +1,11 @@
+use mathlib.Core.Path.{◌∙◌}
+use Rattle.std.proofs.lemmas.Result.{err_from_is_err_and}
+use Rattle.rows.proofs.Laws.{there}
+use Rattle.reading.proofs.Laws.{at_none, at_some}
+use Rattle.reading.proofs.named_at.Goals as goal
+
+pub returns-in_err-row : goal.returns-in_err-row
+returns-in_err-row g c = let p = err_from_is_err_and c.from_residual.result c.from_residual.ensures.1 in rw (p.1, p.2, c.in_err-row.ensures.0) (at_none _ _ _ _ c.in_err-row.ensures.1)
+
+pub returns : goal.returns
+returns g c = at_some _ _ c.args.place c.args.rows.now c.in_ok-row.ensures.0 (c.show.ensures ∙ rw (there c.args.rows.now c.args.place c.in_ok-row.ensures.0, c.in_ok-row.ensures.1))
