@@ -4,14 +4,12 @@
 
 ghost use Rattle.std.specs.Prelude.{◌≡◌, ◌≤◌, ◌<◌, ◌+◌};
 ghost use Rattle.definition.specs.Look.{one_if};
-ghost use Rattle.definition.specs.Codes.{kind_number};
 ghost use Rattle.plan.specs.Decided.{one_there};
 ghost use Rattle.whole.specs.After.{opened_by, position_by, InRange};
 
 use arena::Written;
 use definition::Position;
-use definition::codes::Kind;
-use plan::{Effect, Element};
+use plan::Effect;
 
 // One row more where there is one: a count is added up, so it is a number.
 #[tactic(auto, unfolding(plan::specs::Decided::one_there))]
@@ -21,16 +19,16 @@ fn one<T: Copy>(row: Option<T>) -> u32
     u32::from(row.is_some())
 }
 
-// `empty` and `whole` are a start and an end as one event.
+// By the kind's number: `empty` and `whole` are a start and an end as one event, and a number past the last is an end.
 #[tactic(auto, unfolding(whole::specs::After::opened_by, definition::specs::Position::pushed_at, definition::specs::Position::popped_at, definition::specs::Position::counting, definition::specs::Position::one_more))]
-fn opened_after(kind: Kind, p: Position) -> u32
-    requires { kind ≡ Kind.Open → p.opened < 32 }
-    ensures { result ≡ opened_by (kind_number kind) p.opened }
+fn opened_after(kind: u32, p: Position) -> u32
+    requires { kind ≡ 0 → p.opened < 32 }
+    ensures { result ≡ opened_by kind p.opened }
 {
     match kind {
-        Kind::Open => p.push().opened,
-        Kind::Empty | Kind::Whole => p.opened,
-        Kind::End => p.pop().opened,
+        0 => p.push().opened,
+        1 | 2 => p.opened,
+        _ => p.pop().opened,
     }
 }
 
@@ -44,13 +42,13 @@ fn names_after(made: bool, p: Position) -> u32
 
 /// By the event's kind, what it does, and what was written of its texts and names.
 #[tactic(auto, unfolding(whole::specs::After::position_by))]
-pub fn position_after(p: Position, element: Element, effect: Effect, w: Written) -> Position
-    requires { InRange p effect.plan (kind_number element.kind) effect.made effect.charge w }
-    ensures { result ≡ position_by p effect.plan (kind_number element.kind) effect.made effect.charge w }
+pub fn position_after(p: Position, kind: u32, effect: Effect<'_>, w: Written) -> Position
+    requires { InRange p effect.plan.now kind effect.made effect.charge w }
+    ensures { result ≡ position_by p effect.entry.plan.now kind effect.entry.made effect.entry.charge w }
 {
     let q = effect.plan;
     Position {
-        opened: opened_after(element.kind, p),
+        opened: opened_after(kind, p),
         states: w.states as u32,
         transitions: p.transitions + one(q.transitions.added),
         regions: p.regions + one(q.regions.one) + one(q.regions.two),

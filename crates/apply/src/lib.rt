@@ -22,8 +22,8 @@ use rows::put;
 use tables::{OpenedName, add_two, change_open_regions, change_opened, change_regions};
 
 #[tactic(auto, unfolding(tables::specs::Whole::open_names_in, tables::specs::Whole::added_in))]
-fn change_open_names(names: &mut [[u8; 64]], n: usize, name: Option<OpenedName>)
-    ensures { names.new ≡ open_names_in name n names.old }
+fn change_open_names(names: &mut [[u8; 64]], n: usize, name: &Option<OpenedName>)
+    ensures { names.new ≡ open_names_in name.now n names.old }
 {
     if let Some(name) = name {
         put(names, n, name.row);
@@ -78,38 +78,38 @@ pub fn apply(
     texts: Texts<'_>,
     opened: Option<OpenedName>,
     n: Position,
-    p: Plan,
+    p: &Plan,
 )
-    requires { ((n.regions < 65536) × (n.members < 65536)) × (p.pending.kept < 65536) }
-    ensures written { lent_of lent.new ≡ applied_to texts.entry.cells.now (tag_number texts.entry.tag) opened n p lent.old }
+    requires { ((n.regions < 65536) × (n.members < 65536)) × (p.now.pending.kept < 65536) }
+    ensures written { lent_of lent.new ≡ applied_to texts.entry.cells.now (tag_number texts.entry.tag) opened n p.now lent.old }
     ensures loans { SameLoans lent.old lent.new }
 {
-    change_chart(lent.chart, p.chart, texts);
-    change_states(lent.states, p.states, texts);
+    change_chart(lent.chart, &p.chart, texts);
+    change_states(lent.states, &p.states, texts);
     change_transitions(
         lent.transitions,
         n.transitions as usize,
-        p.transitions,
+        &p.transitions,
         texts,
     );
-    change_regions(lent.regions, n.regions as usize, p.regions);
-    change_entries(lent.entries, n.entries as usize, p.entries, texts);
-    change_invokes(lent.invokes, n.invokes as usize, p.invokes, texts);
-    change_datums(lent.datums, n.datums as usize, p.datums, texts);
-    change_parameters(lent.parameters, n.parameters as usize, p.parameters, texts);
+    change_regions(lent.regions, n.regions as usize, &p.regions);
+    change_entries(lent.entries, n.entries as usize, &p.entries, texts);
+    change_invokes(lent.invokes, n.invokes as usize, &p.invokes, texts);
+    change_datums(lent.datums, n.datums as usize, &p.datums, texts);
+    change_parameters(lent.parameters, n.parameters as usize, &p.parameters, texts);
     add_two(
         lent.members,
         n.members as usize,
-        p.members.one,
-        p.members.two,
+        &p.members.one,
+        &p.members.two,
     );
     change_opened(
         lent.opened,
         n.opened as usize,
         texts.tag.number(),
         p.opened,
-        opened,
+        &opened,
     );
-    change_open_names(lent.open_names, n.opened as usize, opened);
-    change_open_regions(lent.open_regions, p.pending);
+    change_open_names(lent.open_names, n.opened as usize, &opened);
+    change_open_regions(lent.open_regions, &p.pending);
 }

@@ -42,13 +42,13 @@ pub fn write_texts(
     text: &mut [u8],
     p: Position,
     src: &[u8],
-    pl: Plain,
+    pl: &Plain,
     made: bool,
     m: MembersPlan,
     t: &mut [u32],
 ) -> Written
-    requires { (t.old ≡ replicate 64 0) × Storable p (parsed_in src.now pl) states.old members.old text.old made m }
-    ensures { Stored p (parsed_in src.now pl) states.old members.old text.old m states.new members.new text.new t.new result }
+    requires { (t.old ≡ replicate 64 0) × Storable p (parsed_in src.now pl.now) states.old members.old text.old made m }
+    ensures { Stored p (parsed_in src.now pl.now) states.old members.old text.old m states.new members.new text.new t.new result }
 {
     let e = append_event(text, p.used as usize, src, pl, made, p.names);
     texts_of(t, src, pl, p.used as usize, made, e);

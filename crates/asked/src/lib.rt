@@ -28,7 +28,7 @@ pub struct Place {
 
 // include; data or script with `src`; send with `delay`.
 fn left_out(event: &Indexed<'_>) -> bool
-    ensures { result ≡ (asked_in (parsed_in event.now.src.now event.now.plain)).omitted }
+    ensures { result ≡ (asked_in (parsed_in event.now.src.now event.now.plain.now)).omitted }
 {
     match event.plain.tag {
         Tag::Include => true,
@@ -39,7 +39,7 @@ fn left_out(event: &Indexed<'_>) -> bool
 }
 
 fn complete(event: &Indexed<'_>) -> bool
-    ensures { result ≡ (asked_in (parsed_in event.now.src.now event.now.plain)).complete }
+    ensures { result ≡ (asked_in (parsed_in event.now.src.now event.now.plain.now)).complete }
 {
     match event.plain.tag {
         Tag::Data => event.has(Key::Id),
@@ -55,14 +55,14 @@ fn complete(event: &Indexed<'_>) -> bool
 
 // Whether not both keys are there.
 fn not_both(event: &Indexed<'_>, one: Key, other: Key) -> bool
-    ensures { result ≡ not (there (parsed_in event.now.src.now event.now.plain) (key_number one) && there (parsed_in event.now.src.now event.now.plain) (key_number other)) }
+    ensures { result ≡ not (there (parsed_in event.now.src.now event.now.plain.now) (key_number one) && there (parsed_in event.now.src.now event.now.plain.now) (key_number other)) }
 {
     !(event.has(one) & event.has(other))
 }
 
 // Two keys of one element that exclude each other: three elements have such keys.
 fn keys_apart(event: &Indexed<'_>) -> bool
-    ensures { result ≡ apart_by (there (parsed_in event.now.src.now event.now.plain)) (tag_number event.now.plain.tag) }
+    ensures { result ≡ apart_by (there (parsed_in event.now.src.now event.now.plain.now)) (tag_number event.now.plain.now.tag) }
 {
     match event.plain.tag {
         Tag::Send => {
@@ -79,7 +79,7 @@ fn keys_apart(event: &Indexed<'_>) -> bool
 
 // Whether an event has a text that is not white space alone.
 fn has_text(event: &Indexed<'_>) -> bool
-    ensures { result ≡ leb 1 (trimmed_in (parsed_in event.now.src.now event.now.plain).text) }
+    ensures { result ≡ leb 1 (trimmed_in (parsed_in event.now.src.now event.now.plain.now).text) }
 {
     if event.plain.kind != Kind::Whole {
         return false;
@@ -89,7 +89,7 @@ fn has_text(event: &Indexed<'_>) -> bool
 
 // A text beside expr: only a whole event has a text.
 fn text_apart(event: &Indexed<'_>) -> bool
-    ensures { result ≡ text_apart_in (parsed_in event.now.src.now event.now.plain) }
+    ensures { result ≡ text_apart_in (parsed_in event.now.src.now event.now.plain.now) }
 {
     if event.plain.kind != Kind::Whole {
         return true;
@@ -109,7 +109,7 @@ const TYPES: u32 = 3;
 
 // The questions 7 to 10, which an end is not asked.
 fn may_start(event: &Indexed<'_>, place: Place) -> Result<(), Refusal>
-    ensures { let a = asked_in (parsed_in event.now.src.now event.now.plain) in let no = first_no (start_by a.start a.tag a.complete place.depth place.parent place.root) in MatchResult result (λ u. no ≡ 0) (λ r. refusal_number r ≡ no) }
+    ensures { let a = asked_in (parsed_in event.now.src.now event.now.plain.now) in let no = first_no (start_by a.start a.tag a.complete place.depth place.parent place.root) in MatchResult result (λ u. no ≡ 0) (λ r. refusal_number r ≡ no) }
 {
     if event.plain.kind == Kind::End {
         return Ok(());
@@ -131,7 +131,7 @@ fn may_start(event: &Indexed<'_>, place: Place) -> Result<(), Refusal>
 
 // Of the questions 5 to 12, each asked only after a yes to those before it.
 pub fn first_no(event: &Indexed<'_>, h: Heard, place: Place) -> Result<(), Refusal>
-    ensures { let no = first_no (questions_by h (asked_in (parsed_in event.now.src.now event.now.plain)) place.innermost place.depth place.parent place.root) in MatchResult result (λ u. no ≡ 0) (λ r. refusal_number r ≡ no) }
+    ensures { let no = first_no (questions_by h (asked_in (parsed_in event.now.src.now event.now.plain.now)) place.innermost place.depth place.parent place.root) in MatchResult result (λ u. no ≡ 0) (λ r. refusal_number r ≡ no) }
 {
     if (event.plain.kind == Kind::End) & !place.innermost {
         return Err(Refusal::WrongEnd);

@@ -15,8 +15,8 @@ use plan::{ChartPlan, NewTransition, Shape, StatePlan, TransitionPlan};
 use rows::{alter, put};
 
 #[tactic(auto, unfolding(entries::specs::Whole::new_transition))]
-fn transition_row(p: NewTransition, texts: Texts<'_>) -> [u32; 8]
-    ensures { result ≡ new_transition texts.entry.cells.now (tag_number texts.entry.tag) p }
+fn transition_row(p: &NewTransition, texts: Texts<'_>) -> [u32; 8]
+    ensures { result ≡ new_transition texts.entry.cells.now (tag_number texts.entry.tag) p.now }
 {
     let mut row = [0u32; 8];
     row[TransitionColumn::NUMBER] = p.number.0;
@@ -33,20 +33,20 @@ fn transition_row(p: NewTransition, texts: Texts<'_>) -> [u32; 8]
 pub fn change_transitions(
     transitions: &mut [[u32; 8]],
     n: usize,
-    p: TransitionPlan,
+    p: &TransitionPlan,
     texts: Texts<'_>,
 )
-    ensures { transitions.new ≡ transitions_in texts.entry.cells.now (tag_number texts.entry.tag) p n transitions.old }
+    ensures { transitions.new ≡ transitions_in texts.entry.cells.now (tag_number texts.entry.tag) p.now n transitions.old }
 {
-    if let Some(new) = p.added {
+    if let Some(new) = &p.added {
         put(transitions, n, transition_row(new, texts));
     }
-    let Some(change) = p.altered else { return };
+    let Some(change) = &p.altered else { return };
     alter(
         transitions,
         change.at,
         |mut row: [u32; 8]|
-            ensures { result ≡ set row 5 change.content.0 }
+            ensures { result ≡ set row 5 change.entry.now.content.0 }
         {
             row[TransitionColumn::CONTENT] = change.content.0;
             row
@@ -55,8 +55,8 @@ pub fn change_transitions(
 }
 
 #[tactic(auto, unfolding(plan::specs::After::state_columns_after))]
-fn put_columns(row: &mut [u32], p: StatePlan)
-    ensures { row.new ≡ state_columns_after p row.old }
+fn put_columns(row: &mut [u32], p: &StatePlan)
+    ensures { row.new ≡ state_columns_after p.now row.old }
 {
     put_column(row, StateColumn::INITIAL, p.initial);
     put_column(row, StateColumn::DOC, p.doc);
@@ -69,8 +69,8 @@ fn put_columns(row: &mut [u32], p: StatePlan)
 }
 
 #[tactic(auto, unfolding(entries::specs::Whole::state_row_by))]
-fn state_changed(mut row: [u32; 24], p: StatePlan, texts: Texts<'_>) -> [u32; 24]
-    ensures { result ≡ state_row_by texts.entry.cells.now (tag_number texts.entry.tag) p row }
+fn state_changed(mut row: [u32; 24], p: &StatePlan, texts: Texts<'_>) -> [u32; 24]
+    ensures { result ≡ state_row_by texts.entry.cells.now (tag_number texts.entry.tag) p.now row }
 {
     fill_if(&mut row, texts, p.texts);
     put_columns(&mut row, p);
@@ -78,8 +78,8 @@ fn state_changed(mut row: [u32; 24], p: StatePlan, texts: Texts<'_>) -> [u32; 24
 }
 
 #[tactic(auto, unfolding(entries::specs::Whole::states_in, plan::specs::After::altered_if))]
-pub fn change_states(states: &mut [[u32; 24]], p: Option<StatePlan>, texts: Texts<'_>)
-    ensures { states.new ≡ states_in texts.entry.cells.now (tag_number texts.entry.tag) p states.old }
+pub fn change_states(states: &mut [[u32; 24]], p: &Option<StatePlan>, texts: Texts<'_>)
+    ensures { states.new ≡ states_in texts.entry.cells.now (tag_number texts.entry.tag) p.now states.old }
 {
     let Some(change) = p else { return };
     let Texts { tag, cells } = texts;
@@ -87,7 +87,7 @@ pub fn change_states(states: &mut [[u32; 24]], p: Option<StatePlan>, texts: Text
         states,
         change.at.0,
         |row|
-            ensures { result ≡ state_row_by cells.entry.now (tag_number tag) change row }
+            ensures { result ≡ state_row_by cells.entry.now (tag_number tag) change.entry.now row }
         { state_changed(row, change, Texts { tag, cells }) },
     );
 }
@@ -103,8 +103,8 @@ fn put_root(row: &mut [u32], texts: Texts<'_>, root: Option<u32>)
 }
 
 #[tactic(auto, unfolding(entries::specs::Whole::chart_row))]
-fn chart_changed(mut row: [u32; 24], p: ChartPlan, texts: Texts<'_>) -> [u32; 24]
-    ensures { result ≡ chart_row texts.entry.cells.now (tag_number texts.entry.tag) p row }
+fn chart_changed(mut row: [u32; 24], p: &ChartPlan, texts: Texts<'_>) -> [u32; 24]
+    ensures { result ≡ chart_row texts.entry.cells.now (tag_number texts.entry.tag) p.now row }
 {
     put_column(&mut row, ChartColumn::BINDING, p.binding);
     put_root(&mut row, texts, p.root);
@@ -113,8 +113,8 @@ fn chart_changed(mut row: [u32; 24], p: ChartPlan, texts: Texts<'_>) -> [u32; 24
 }
 
 #[tactic(auto, unfolding(entries::specs::Whole::chart_in, plan::specs::After::altered_if))]
-pub fn change_chart(chart: &mut [[u32; 24]], p: Option<ChartPlan>, texts: Texts<'_>)
-    ensures { chart.new ≡ chart_in texts.entry.cells.now (tag_number texts.entry.tag) p chart.old }
+pub fn change_chart(chart: &mut [[u32; 24]], p: &Option<ChartPlan>, texts: Texts<'_>)
+    ensures { chart.new ≡ chart_in texts.entry.cells.now (tag_number texts.entry.tag) p.now chart.old }
 {
     let Some(change) = p else { return };
     let Texts { tag, cells } = texts;
@@ -122,7 +122,7 @@ pub fn change_chart(chart: &mut [[u32; 24]], p: Option<ChartPlan>, texts: Texts<
         chart,
         1,
         |row|
-            ensures { result ≡ chart_row cells.entry.now (tag_number tag) change row }
+            ensures { result ≡ chart_row cells.entry.now (tag_number tag) change.entry.now row }
         { chart_changed(row, change, Texts { tag, cells }) },
     );
 }

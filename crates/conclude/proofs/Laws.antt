@@ -27,10 +27,10 @@ refusal_is k = search rules
 pub is_refused : (x : Lent) (p : Position) (v : Parsed) (k : Refusal) → Refuses x p v k → Answers x p v (given (refusal_number k) p x)
 is_refused x p v k S A = refused_answer x p (store_of x p) (refusal_number k) (refusal_is k) ∙ ap (answer_of x p) (sym (S A))
 
-pub is_accepted : (x : Lent) (p : Position) (v : Parsed) (f : Effect) → Takes x p v f → (y : Lent) (u : Position) → Leaves x p v f.plan y u → Answers x p v (given 0 u y)
+pub is_accepted : (x : Lent) (p : Position) (v : Parsed) (f : Effect) → Takes x p v f → (y : Lent) (u : Position) → Leaves x p v f.plan.now y u → Answers x p v (given 0 u y)
 unfolding answer_of
 is_accepted x p v f S y u W A =
-    let R : Ready x p v f.plan f.made f.charge = S.ready A in
-    let l : y ≡ lent_after x (afterwards (store_of x p) A.event f.plan) = W.lent R.accepted ∙ ap (λ (e : Event). lent_after x (afterwards (store_of x p) e f.plan)) (S.same A) in
-    let q : u ≡ position_of (afterwards (store_of x p) A.event f.plan) = W.position R.accepted ∙ ap (λ (e : Event). position_of (afterwards (store_of x p) e f.plan)) (S.same A) in
+    let R : Ready x p v f.plan.now f.made f.charge = S.ready A in
+    let l : y ≡ lent_after x (afterwards (store_of x p) A.event f.plan.now) = W.lent R.accepted ∙ ap (λ (e : Event). lent_after x (afterwards (store_of x p) e f.plan.now)) (S.same A) in
+    let q : u ≡ position_of (afterwards (store_of x p) A.event f.plan.now) = W.position R.accepted ∙ ap (λ (e : Event). position_of (afterwards (store_of x p) e f.plan.now)) (S.same A) in
     (λ i. given 0 (q i) (l i)) ∙ ap (answer_of x p) (sym (S.reply A))

@@ -9,6 +9,7 @@ ghost use Rattle.conclude.specs.Fed.{given, Answers};
 
 use definition::Position;
 use plain::Plain;
+use plan::Plan;
 use rows::lent::Lent;
 use settle::settle;
 use write::write;
@@ -23,12 +24,13 @@ pub struct Answer {
 }
 
 /// An event whose parts stand unescaped in `src`. A refusal gives the position back as it came, and writes nothing.
-pub fn feed_parsed(lent: &mut Lent<'_>, p: Position, src: &[u8], pl: Plain) -> Answer
-    requires { InForm (lent_of lent.old) p (parsed_in src.now pl) }
-    ensures answers { Answers (lent_of lent.old) p (parsed_in src.now pl) (given result.number result.position (lent_of lent.new)) }
+pub fn feed_parsed(lent: &mut Lent<'_>, p: Position, src: &[u8], pl: &Plain) -> Answer
+    requires { InForm (lent_of lent.old) p (parsed_in src.now pl.now) }
+    ensures answers { Answers (lent_of lent.old) p (parsed_in src.now pl.now) (given result.number result.position (lent_of lent.new)) }
     ensures loans { SameLoans lent.old lent.new }
 {
-    match settle(lent.tables(), p, src, pl) {
+    let mut plan = Plan::default();
+    match settle(lent.tables(), p, src, pl, &mut plan) {
         Err(refusal) => Answer {
             number: refusal.number(),
             position: p,

@@ -8,3 +8,8 @@ use Rattle.plan.specs.Plan.{Planned, planned, refused}
 abbrev pub told : Result Plan Refusal → Planned
 told (Ok p) = planned p
 told (Err k) = refused (refusal_number k)
+
+-- What is decided, with the plan that was lent.
+abbrev pub placed : Result Unit Refusal → Plan → Result Plan Refusal
+placed (Ok u) p = Ok p
+placed (Err k) p = Err k

@@ -2,7 +2,7 @@
 
 #![tactic(auto)]
 
-ghost use Rattle.std.specs.Prelude.{◌≡◌, ◌<◌, Some, None, MatchResult};
+ghost use Rattle.std.specs.Prelude.{◌≡◌, ◌<◌, suc, Some, None, MatchResult};
 ghost use Rattle.plan.specs.Plan.{keeping, counting, inside};
 ghost use Rattle.plan.specs.Plans.{idle_in, begun, ended, one_region, one_member, some_words, one_more};
 
@@ -13,22 +13,39 @@ use plan::{
     RegionPlan, Seen,
 };
 
-/// The answer: what the event does, or the question that is answered no.
-pub type Decision = Result<Plan, Refusal>;
+/// The answer: what the event does is in the plan that is lent, or the question that is answered no. Plans are lent, since they are large and would be copied
+/// from function to function.
+pub type Decision = Result<(), Refusal>;
 
-/// What has a number is there: 0 is no row's.
-pub fn needs(number: u32) -> Result<(), Refusal>
-    ensures { MatchResult result (λ u. 0 < number) (λ refusal. (number ≡ 0) × (refusal ≡ Refusal.OutOfOrder)) }
+/// A test: what has a number is there, since 0 is no row's; else the refusal.
+pub fn needs(number: u32, no: Refusal) -> Result<(), Refusal>
+    ensures { MatchResult result (λ u. 0 < number) (λ refusal. (number ≡ 0) × (refusal ≡ no)) }
 {
     if number == 0 {
-        return Err(Refusal::OutOfOrder);
+        return Err(no);
     }
     Ok(())
 }
 
+/// The number drawn next, as a transition's.
+pub fn next_transition(v: &Seen) -> TransitionId
+    requires { v.now.ids < 65536 }
+    ensures { result.0 ≡ suc v.now.ids }
+{
+    TransitionId(v.ids + 1)
+}
+
+/// The number drawn next, as a region's.
+pub fn next_region(v: &Seen) -> RegionId
+    requires { v.now.ids < 65536 }
+    ensures { result.0 ≡ suc v.now.ids }
+{
+    RegionId(v.ids + 1)
+}
+
 /// The region that the element closes; where none is current it is an internal error.
-pub fn closed(v: Seen) -> Result<Closing, Refusal>
-    ensures { MatchResult result (λ x. v.closed ≡ Some x) (λ refusal. (v.closed ≡ None) × (refusal ≡ Refusal.OutOfOrder)) }
+pub fn closed(v: &Seen) -> Result<Closing, Refusal>
+    ensures { MatchResult result (λ x. v.now.closed ≡ Some x) (λ refusal. (v.now.closed ≡ None) × (refusal ≡ Refusal.OutOfOrder)) }
 {
     v.closed.ok_or(Refusal::OutOfOrder)
 }
@@ -98,8 +115,8 @@ pub fn counting(current: RegionId, ids: u32, docs: u32) -> CounterPlan
 
 /// The plan that does nothing.
 #[tactic(auto, unfolding(plan::specs::Plans::idle_in))]
-pub fn idle_in(opened: OpenPlan, v: Seen) -> Plan
-    ensures { result ≡ idle_in opened v }
+pub fn idle_in(opened: OpenPlan, v: &Seen) -> Plan
+    ensures { result ≡ idle_in opened v.now }
 {
     Plan {
         opened,
@@ -111,23 +128,23 @@ pub fn idle_in(opened: OpenPlan, v: Seen) -> Plan
 
 /// A start that changes neither the state nor the transition.
 #[tactic(auto, unfolding(plan::specs::Plans::begun))]
-pub fn begun(v: Seen) -> Plan
-    ensures { result ≡ begun v }
+pub fn begun(v: &Seen) -> Plan
+    ensures { result ≡ begun v.now }
 {
     idle_in(inside(v.state, v.transition), v)
 }
 
 /// An end that does nothing.
-pub fn rest(v: Seen) -> Plan
-    ensures { result ≡ idle_in (inside 0 0) v }
+pub fn rest(v: &Seen) -> Plan
+    ensures { result ≡ idle_in (inside 0 0) v.now }
 {
     idle_in(OpenPlan::default(), v)
 }
 
 /// An end that closes the element's region.
 #[tactic(auto, unfolding(plan::specs::Plans::ended, plan::specs::Plans::idle_in))]
-pub fn ended(x: Closing, v: Seen) -> Plan
-    ensures { result ≡ ended x v }
+pub fn ended(x: Closing, v: &Seen) -> Plan
+    ensures { result ≡ ended x v.now }
 {
     Plan {
         pending: keeping(x.kept),

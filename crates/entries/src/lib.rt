@@ -50,8 +50,8 @@ fn fill_record(row: &mut [u32], texts: Texts<'_>, shape: Shape, c: usize, filled
 }
 
 #[tactic(auto, unfolding(crate::specs::Whole::new_entry, crate::specs::Whole::texts_by))]
-fn entry_row(p: NewEntry, texts: Texts<'_>) -> [u32; 48]
-    ensures { result ≡ new_entry texts.entry.cells.now (tag_number texts.entry.tag) p }
+fn entry_row(p: &NewEntry, texts: Texts<'_>) -> [u32; 48]
+    ensures { result ≡ new_entry texts.entry.cells.now (tag_number texts.entry.tag) p.now }
 {
     let mut row = [0u32; 48];
     row[EntryColumn::REGION] = p.region.0;
@@ -63,8 +63,8 @@ fn entry_row(p: NewEntry, texts: Texts<'_>) -> [u32; 48]
 }
 
 #[tactic(auto, unfolding(crate::specs::Whole::old_entry))]
-fn entry_changed(mut row: [u32; 48], p: EntryChange, texts: Texts<'_>) -> [u32; 48]
-    ensures { result ≡ old_entry texts.entry.cells.now (tag_number texts.entry.tag) p row }
+fn entry_changed(mut row: [u32; 48], p: &EntryChange, texts: Texts<'_>) -> [u32; 48]
+    ensures { result ≡ old_entry texts.entry.cells.now (tag_number texts.entry.tag) p.now row }
 {
     put_column(&mut row, EntryColumn::ELSE, p.other);
     fill_record(
@@ -78,26 +78,26 @@ fn entry_changed(mut row: [u32; 48], p: EntryChange, texts: Texts<'_>) -> [u32; 
 }
 
 #[tactic(auto, unfolding(crate::specs::Whole::entries_in, plan::specs::After::altered_if, tables::specs::Whole::added_in))]
-pub fn change_entries(entries: &mut [[u32; 48]], n: usize, p: EntryPlan, texts: Texts<'_>)
-    ensures { entries.new ≡ entries_in texts.entry.cells.now (tag_number texts.entry.tag) p n entries.old }
+pub fn change_entries(entries: &mut [[u32; 48]], n: usize, p: &EntryPlan, texts: Texts<'_>)
+    ensures { entries.new ≡ entries_in texts.entry.cells.now (tag_number texts.entry.tag) p.now n entries.old }
 {
-    if let Some(new) = p.added {
+    if let Some(new) = &p.added {
         put(entries, n, entry_row(new, texts));
     }
-    let Some(change) = p.altered else { return };
+    let Some(change) = &p.altered else { return };
     let Texts { tag, cells } = texts;
     alter(
         entries,
         change.at,
         |row|
-            ensures { result ≡ old_entry cells.entry.now (tag_number tag) change row }
+            ensures { result ≡ old_entry cells.entry.now (tag_number tag) change.entry.now row }
         { entry_changed(row, change, Texts { tag, cells }) },
     );
 }
 
 #[tactic(auto, unfolding(crate::specs::Whole::new_invoke, crate::specs::Whole::texts_by))]
-fn invoke_row(p: NewInvoke, texts: Texts<'_>) -> [u32; 24]
-    ensures { result ≡ new_invoke texts.entry.cells.now (tag_number texts.entry.tag) p }
+fn invoke_row(p: &NewInvoke, texts: Texts<'_>) -> [u32; 24]
+    ensures { result ≡ new_invoke texts.entry.cells.now (tag_number texts.entry.tag) p.now }
 {
     let mut row = [0u32; 24];
     row[InvokeColumn::STATE] = p.state.0;
@@ -107,8 +107,8 @@ fn invoke_row(p: NewInvoke, texts: Texts<'_>) -> [u32; 24]
 }
 
 #[tactic(auto, unfolding(crate::specs::Whole::old_invoke))]
-fn invoke_changed(mut row: [u32; 24], p: InvokeChange, texts: Texts<'_>) -> [u32; 24]
-    ensures { result ≡ old_invoke texts.entry.cells.now (tag_number texts.entry.tag) p row }
+fn invoke_changed(mut row: [u32; 24], p: &InvokeChange, texts: Texts<'_>) -> [u32; 24]
+    ensures { result ≡ old_invoke texts.entry.cells.now (tag_number texts.entry.tag) p.now row }
 {
     put_column(&mut row, InvokeColumn::FINALIZE, p.finalize);
     fill_record(
@@ -122,26 +122,26 @@ fn invoke_changed(mut row: [u32; 24], p: InvokeChange, texts: Texts<'_>) -> [u32
 }
 
 #[tactic(auto, unfolding(crate::specs::Whole::invokes_in, plan::specs::After::altered_if, tables::specs::Whole::added_in))]
-pub fn change_invokes(invokes: &mut [[u32; 24]], n: usize, p: InvokePlan, texts: Texts<'_>)
-    ensures { invokes.new ≡ invokes_in texts.entry.cells.now (tag_number texts.entry.tag) p n invokes.old }
+pub fn change_invokes(invokes: &mut [[u32; 24]], n: usize, p: &InvokePlan, texts: Texts<'_>)
+    ensures { invokes.new ≡ invokes_in texts.entry.cells.now (tag_number texts.entry.tag) p.now n invokes.old }
 {
-    if let Some(new) = p.added {
+    if let Some(new) = &p.added {
         put(invokes, n, invoke_row(new, texts));
     }
-    let Some(change) = p.altered else { return };
+    let Some(change) = &p.altered else { return };
     let Texts { tag, cells } = texts;
     alter(
         invokes,
         change.at,
         |row|
-            ensures { result ≡ old_invoke cells.entry.now (tag_number tag) change row }
+            ensures { result ≡ old_invoke cells.entry.now (tag_number tag) change.entry.now row }
         { invoke_changed(row, change, Texts { tag, cells }) },
     );
 }
 
 #[tactic(auto, unfolding(crate::specs::Whole::new_datum, crate::specs::Whole::texts_by))]
-fn datum_row(p: NewDatum, texts: Texts<'_>) -> [u32; 8]
-    ensures { result ≡ new_datum texts.entry.cells.now (tag_number texts.entry.tag) p }
+fn datum_row(p: &NewDatum, texts: Texts<'_>) -> [u32; 8]
+    ensures { result ≡ new_datum texts.entry.cells.now (tag_number texts.entry.tag) p.now }
 {
     let mut row = [0u32; 8];
     row[DatumColumn::STATE] = p.state.0;
@@ -150,34 +150,34 @@ fn datum_row(p: NewDatum, texts: Texts<'_>) -> [u32; 8]
 }
 
 #[tactic(auto, unfolding(crate::specs::Whole::old_datum, crate::specs::Whole::texts_by))]
-fn datum_changed(mut row: [u32; 8], p: DatumChange, texts: Texts<'_>) -> [u32; 8]
-    ensures { result ≡ old_datum texts.entry.cells.now (tag_number texts.entry.tag) p row }
+fn datum_changed(mut row: [u32; 8], p: &DatumChange, texts: Texts<'_>) -> [u32; 8]
+    ensures { result ≡ old_datum texts.entry.cells.now (tag_number texts.entry.tag) p.now row }
 {
     texts.fill(&mut row, p.shape);
     row
 }
 
 #[tactic(auto, unfolding(crate::specs::Whole::datums_in, plan::specs::After::altered_if, tables::specs::Whole::added_in))]
-pub fn change_datums(datums: &mut [[u32; 8]], n: usize, p: DatumPlan, texts: Texts<'_>)
-    ensures { datums.new ≡ datums_in texts.entry.cells.now (tag_number texts.entry.tag) p n datums.old }
+pub fn change_datums(datums: &mut [[u32; 8]], n: usize, p: &DatumPlan, texts: Texts<'_>)
+    ensures { datums.new ≡ datums_in texts.entry.cells.now (tag_number texts.entry.tag) p.now n datums.old }
 {
-    if let Some(new) = p.added {
+    if let Some(new) = &p.added {
         put(datums, n, datum_row(new, texts));
     }
-    let Some(change) = p.altered else { return };
+    let Some(change) = &p.altered else { return };
     let Texts { tag, cells } = texts;
     alter(
         datums,
         change.at,
         |row|
-            ensures { result ≡ old_datum cells.entry.now (tag_number tag) change row }
+            ensures { result ≡ old_datum cells.entry.now (tag_number tag) change.entry.now row }
         { datum_changed(row, change, Texts { tag, cells }) },
     );
 }
 
 #[tactic(auto, unfolding(crate::specs::Whole::new_parameter, crate::specs::Whole::texts_by))]
-fn parameter_row(p: ParameterPlan, texts: Texts<'_>) -> [u32; 8]
-    ensures { result ≡ new_parameter texts.entry.cells.now (tag_number texts.entry.tag) p }
+fn parameter_row(p: &ParameterPlan, texts: Texts<'_>) -> [u32; 8]
+    ensures { result ≡ new_parameter texts.entry.cells.now (tag_number texts.entry.tag) p.now }
 {
     let mut row = [0u32; 8];
     row[ParameterColumn::KIND] = p.kind.number();
@@ -190,10 +190,10 @@ fn parameter_row(p: ParameterPlan, texts: Texts<'_>) -> [u32; 8]
 pub fn change_parameters(
     parameters: &mut [[u32; 8]],
     n: usize,
-    p: Option<ParameterPlan>,
+    p: &Option<ParameterPlan>,
     texts: Texts<'_>,
 )
-    ensures { parameters.new ≡ parameters_in texts.entry.cells.now (tag_number texts.entry.tag) p n parameters.old }
+    ensures { parameters.new ≡ parameters_in texts.entry.cells.now (tag_number texts.entry.tag) p.now n parameters.old }
 {
     if let Some(new) = p {
         put(parameters, n, parameter_row(new, texts));

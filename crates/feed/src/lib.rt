@@ -28,7 +28,7 @@ fn feed_copy(lent: &mut Lent<'_>, p: Position, raw: &[u8], d: Head, pairs: &[Pai
 {
     let mut out = [0u8; Plain::COPY];
     let pl = unescape_all(&mut out, raw, d, pairs);
-    feed_parsed(lent, p, &out, pl)
+    feed_parsed(lent, p, &out, &pl)
 }
 
 /// The questions 5 to 15 of an event that is taken apart; 1 to 4 are yes. Most events have no escape and are read where they stand.
@@ -40,7 +40,7 @@ pub fn feed(lent: &mut Lent<'_>, p: Position, raw: &[u8], d: Head, pairs: &[Pair
 {
     let w = plain_of(d, pairs);
     if w.plain {
-        return feed_parsed(lent, p, raw, w.parts);
+        return feed_parsed(lent, p, raw, &w.parts);
     }
     feed_copy(lent, p, raw, d, pairs)
 }

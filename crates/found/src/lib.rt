@@ -41,7 +41,7 @@ fn find_datum(datums: &[[u32; 8]], text: &[u8], state: u32, w: &[u8]) -> usize
 
 // Of data; 0 of other elements.
 pub fn found(datums: &[[u32; 8]], text: &[u8], state: u32, event: &Indexed<'_>) -> usize
-    ensures { result ≡ found_in text.now datums.now state (parsed_in event.now.src.now event.now.plain) }
+    ensures { result ≡ found_in text.now datums.now state (parsed_in event.now.src.now event.now.plain.now) }
 {
     if event.plain.tag != Tag::Data {
         return 0;

@@ -22,7 +22,7 @@ use words::is_wildcard;
 
 // The codes and counts of keys, as numbers, since rows hold them so (C lends rows of numbers): a value is cut out only for an element that has a code of it.
 fn binding_of(event: &Indexed<'_>) -> u32
-    ensures { let v = parsed_in event.now.src.now event.now.plain in result ≡ code_in 0 v.tag key.binding v.values }
+    ensures { let v = parsed_in event.now.src.now event.now.plain.now in result ≡ code_in 0 v.tag key.binding v.values }
 {
     if !event.has(Key::Binding) {
         return 0;
@@ -35,7 +35,7 @@ fn binding_of(event: &Indexed<'_>) -> u32
 
 // None where no type is given.
 fn type_code(event: &Indexed<'_>) -> Option<u32>
-    ensures { let v = parsed_in event.now.src.now event.now.plain in (d : ℕ) → unwrap_or result d ≡ code_in d v.tag key.type v.values }
+    ensures { let v = parsed_in event.now.src.now event.now.plain.now in (d : ℕ) → unwrap_or result d ≡ code_in d v.tag key.type v.values }
 {
     if !event.has(Key::Type) {
         return None;
@@ -50,7 +50,7 @@ fn type_code(event: &Indexed<'_>) -> Option<u32>
 }
 
 fn wildcard_of(event: &Indexed<'_>) -> u32
-    ensures { let v = parsed_in event.now.src.now event.now.plain in result ≡ code_of v.tag key.event (value_in key.event v.values) }
+    ensures { let v = parsed_in event.now.src.now event.now.plain.now in result ≡ code_of v.tag key.event (value_in key.event v.values) }
 {
     if event.plain.tag != Tag::Transition {
         return 0;
@@ -59,7 +59,7 @@ fn wildcard_of(event: &Indexed<'_>) -> u32
 }
 
 fn forward_of(event: &Indexed<'_>) -> u32
-    ensures { let v = parsed_in event.now.src.now event.now.plain in result ≡ code_of v.tag key.autoforward (value_in key.autoforward v.values) }
+    ensures { let v = parsed_in event.now.src.now event.now.plain.now in result ≡ code_of v.tag key.autoforward (value_in key.autoforward v.values) }
 {
     u32::from(is_true(event.value(Key::Autoforward)))
 }
@@ -76,7 +76,7 @@ fn type_of(code: u32) -> u32
 
 // How many event words a transition has.
 fn events_of(event: &Indexed<'_>) -> u32
-    ensures { let v = parsed_in event.now.src.now event.now.plain in result ≡ words_in v.tag key.event v.values }
+    ensures { let v = parsed_in event.now.src.now event.now.plain.now in result ≡ words_in v.tag key.event v.values }
 {
     if event.plain.tag != Tag::Transition {
         return 0;
@@ -87,7 +87,7 @@ fn events_of(event: &Indexed<'_>) -> u32
 
 // How many words the namelist of a send or an invoke has.
 fn names_of(event: &Indexed<'_>) -> u32
-    ensures { let v = parsed_in event.now.src.now event.now.plain in result ≡ words_in v.tag key.namelist v.values }
+    ensures { let v = parsed_in event.now.src.now event.now.plain.now in result ≡ words_in v.tag key.namelist v.values }
 {
     if (event.plain.tag == Tag::Send) | (event.plain.tag == Tag::Invoke) {
         let v = event.value(Key::Namelist);
@@ -104,7 +104,7 @@ fn has_text(of: Kind) -> bool
 }
 
 pub fn heard(event: &Indexed<'_>, own: StateId, found: u32) -> Heard
-    ensures { result ≡ heard_in own.0 found (parsed_in event.now.src.now event.now.plain) }
+    ensures { result ≡ heard_in own.0 found (parsed_in event.now.src.now event.now.plain.now) }
 {
     let typed = type_code(event);
     Heard {

@@ -18,7 +18,7 @@ use found::{found, is_innermost};
 use heard::heard;
 use names::look_names;
 use payload::{charge, is_made};
-use plain::{Plain, bytes_of, index};
+use plain::{Keyed, Plain, bytes_of, index};
 use plan::Heard;
 use rows::lent::Tables;
 use rows::root_of;
@@ -47,13 +47,14 @@ fn inside(opened: &[[u32; 8]], c: usize) -> u32
 }
 
 /// Of the rows in use.
-pub fn look(used: Tables<'_>, src: &[u8], p: Plain, position: Position) -> Looked
+pub fn look(used: Tables<'_>, src: &[u8], p: &Plain, position: Position) -> Looked
     requires states_len_bound { (length used.states.now ≤ limits01.states) × (length used.datums.now ≤ limits01.datums) }
     requires names_le_drawn { position.names ≤ limits01.drawn }
     requires states_value { names_lead used.text.now (name_cells used.states.now) 0 (name_cells used.states.now) ≡ true }
-    ensures { as_told result ≡ looked_in used.entry.chart.now used.entry.states.now used.entry.datums.now used.entry.opened.now used.entry.open_names.now used.entry.text.now position (parsed_in src.now p) }
+    ensures { as_told result ≡ looked_in used.entry.chart.now used.entry.states.now used.entry.datums.now used.entry.opened.now used.entry.open_names.now used.entry.text.now position (parsed_in src.now p.now) }
 {
-    let event = index(src, p);
+    let mut keys = Keyed::none();
+    let event = index(src, p, &mut keys);
     let names = look_names(used.states, used.text, &event, position.names);
     let row = found(
         used.datums,

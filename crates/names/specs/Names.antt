@@ -23,11 +23,13 @@ ends_so t at before last =
       | true ↦ elim (eqb (get_or t at 0) last) [ false ↦ false | true ↦ elim (eqb at 0) [ true ↦ false | false ↦ eqb (get_or t (at - 1) 0) before ] ]
     ]
 
--- Which row is the last whose name may end so: those behind it may not, and without one no row may.
+-- Which row is the last whose name may end so: it may and those behind it may not, and without one no row may.
 abbrev pub IsLastLike : List ℕ → ℕ → ℕ → Table → Option ℕ → Type 0
 IsLastLike t before last rows o =
     MatchOption o ((i : ℕ) → i < length rows → ends_so t (num (get_or rows i []) state.name) before last ≡ false)
-    (λ k. (k < length rows) × ((i : ℕ) → k < i → i < length rows → ends_so t (num (get_or rows i []) state.name) before last ≡ false))
+    (λ k.
+    (k < length rows) × ((i : ℕ) → k < i → i < length rows → ends_so t (num (get_or rows i []) state.name) before last ≡ false)
+    × (ends_so t (num (get_or rows k []) state.name) before last ≡ true))
 
 -- The words of a value from a place on.
 abbrev pub words_from : List ℕ → ℕ → List Piece

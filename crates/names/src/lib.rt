@@ -197,7 +197,7 @@ fn count_with(states: &[[u32; 24]], text: &[u8], own: &[u8], v: &[u8]) -> Names
 fn look_state(states: &[[u32; 24]], text: &[u8], event: &Indexed<'_>, drawn: u32) -> Names
     requires drawn_le_drawn { drawn ≤ limits01.drawn }
     requires states_value { names_lead text.now (name_cells states.now) 0 (name_cells states.now) ≡ true }
-    ensures { result ≡ counted text.now (name_cells states.now) (state_names drawn (parsed_in event.now.src.now event.now.plain).values) }
+    ensures { result ≡ counted text.now (name_cells states.now) (state_names drawn (parsed_in event.now.src.now event.now.plain.now).values) }
 {
     let initial = event.value(Key::Initial);
     if event.has(Key::Id) {
@@ -223,7 +223,7 @@ fn none() -> Names
 pub fn look_names(states: &[[u32; 24]], text: &[u8], event: &Indexed<'_>, drawn: u32) -> Names
     requires drawn_le_drawn { drawn ≤ limits01.drawn }
     requires states_value { names_lead text.now (name_cells states.now) 0 (name_cells states.now) ≡ true }
-    ensures { result ≡ names_in text.now (name_cells states.now) drawn (parsed_in event.now.src.now event.now.plain) }
+    ensures { result ≡ names_in text.now (name_cells states.now) drawn (parsed_in event.now.src.now event.now.plain.now) }
 {
     if event.plain.kind == Kind::End {
         return none();

@@ -11,7 +11,7 @@ use definition::codes::Tag;
 
 // The elements that an element may stand in, for those numbered 2 to 26: in the Rust's order, then zeros. An array of arrays of numbers, as the project asks
 // (docs/SCOPE.md, "Where to use each form").
-const NESTING: [[u8; 7]; 25] = [
+const NESTING: &[[u8; 7]; 25] = &[
     [1, 2, 3, 0, 0, 0, 0],
     [1, 2, 3, 0, 0, 0, 0],
     [1, 2, 3, 0, 0, 0, 0],

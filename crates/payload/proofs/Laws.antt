@@ -5,8 +5,8 @@ use mathlib.Core.List.{List, [], ◌∷◌, ◌++◌, append_assoc, append-nil}
 use native.Mathlib.Nat.{add-zero}
 use native.Mathlib.Numerals.{add-one}
 use native.Mathlib.Omega.{arith}
-use lib.ListN.{length, get_or, take, drop, length-append, length-drop, take-append-drop}
-use lib.Seq.{take-length, length-take-le, take-suc, take_at, drop_at, drop-drop, take-add}
+use lib.ListN.{length, get_or, set, take, drop, length-append, length-drop, take-append-drop}
+use lib.Seq.{paste, paste-suc, length-paste, take-length, length-take-le, take-suc, take_at, drop_at, drop-drop, take-add}
 use Rattle.definition.specs.Look.{Load, payload}
 use Rattle.std.proofs.Common.{min}
 use Rattle.std.proofs.lemmas.List.{take_min}
@@ -19,6 +19,19 @@ use Rattle.payload.specs.Laid.{laid}
 -- ---- one text
 
 module _ (t : List ℕ) (at : ℕ) (v : List ℕ) (fits : at + length v ≤ length t) where
+  pub pasted : paste t at v (length v) ≡ laid t at v
+  unfolding laid
+  pasted = ap (λ (x : List ℕ). take at t ++ x ++ drop (at + length v) t) (take-length v) ∙ append_assoc (take at t) v (drop (at + length v) t)
+
+  pub paste_end : (i : ℕ) → length v ≤ i → i ≤ length v → paste t at v i ≡ laid t at v
+  paste_end i h k = let e : i ≡ length v = omega arith in ap (paste t at v) e ∙ pasted
+
+  pub paste_more : (now : List ℕ) (i : ℕ) → now ≡ paste t at v i → i < length v → set now (at + i) (get_or v i 0) ≡ paste t at v (i + 1)
+  paste_more now i e h = ap (λ (x : List ℕ). set x (at + i) (get_or v i 0)) e ∙ paste-suc t at v i 0 (omega arith) h ∙ ap (paste t at v) (sym (add-one i))
+
+  pub paste_size : (now : List ℕ) (i : ℕ) → now ≡ paste t at v i → i ≤ length v → length now ≡ length t
+  paste_size now i e h = ap length e ∙ length-paste t at v i (omega arith) h
+
   front : length (take at t) ≡ at
   front = length-take-le at t (omega arith)
 

@@ -17,12 +17,14 @@ use plain::indexed::Indexed;
 use plain::{Plain, Slot, bytes_of};
 use written::{put_generated, put_quoted};
 
-#[tactic(auto, unfolding(crate::specs::Laid::laid))]
+// A loop, since copying between slices calls `memmove`, which the library asks of nobody (include/chartreader.h).
 pub fn put_bytes(text: &mut [u8], at: usize, v: &[u8])
     requires { at + length v.now ≤ length text.old }
     ensures { text.new ≡ laid text.old at v.now }
 {
-    text[at..at + v.len()].copy_from_slice(v);
+    for i in 0..v.len() {
+        text[at + i] = v[i];
+    }
 }
 
 // Values, in order; where they end.
@@ -41,12 +43,12 @@ fn append_slots(text: &mut [u8], used: usize, src: &[u8], slots: &[Slot]) -> usi
 }
 
 // All values, in order; where they end.
-pub fn append_values(text: &mut [u8], used: usize, src: &[u8], p: Plain) -> usize
-    requires { used + length (payload (loads_in src.now (slots_of p))) ≤ length text.old }
-    ensures value { result ≡ used + length (payload (loads_in src.now (slots_of p))) }
-    ensures text_after { text.new ≡ laid text.old used (payload (loads_in src.now (slots_of p))) }
+pub fn append_values(text: &mut [u8], used: usize, src: &[u8], p: &Plain) -> usize
+    requires { used + length (payload (loads_in src.now (slots_of p.now))) ≤ length text.old }
+    ensures value { result ≡ used + length (payload (loads_in src.now (slots_of p.now))) }
+    ensures text_after { text.new ≡ laid text.old used (payload (loads_in src.now (slots_of p.now))) }
 {
-    append_slots(text, used, src, &p.slots[..p.count.min(Plain::SLOTS)])
+    append_slots(text, used, src, p.values())
 }
 
 fn put_quoted_at(text: &mut [u8], pos: usize, v: &[u8]) -> usize
@@ -78,10 +80,10 @@ fn put_text(text: &mut [u8], pos: usize, tag: Tag, v: &[u8]) -> usize
     pos + v.len()
 }
 
-fn append_text(text: &mut [u8], pos: usize, src: &[u8], p: Plain) -> usize
-    requires { pos + length (payload (text_loads (tag_number p.tag) (parsed_in src.now p).text)) ≤ length text.old }
-    ensures value { result ≡ pos + length (payload (text_loads (tag_number p.tag) (parsed_in src.now p).text)) }
-    ensures text_after { text.new ≡ laid text.old pos (payload (text_loads (tag_number p.tag) (parsed_in src.now p).text)) }
+fn append_text(text: &mut [u8], pos: usize, src: &[u8], p: &Plain) -> usize
+    requires { pos + length (payload (text_loads (tag_number p.now.tag) (parsed_in src.now p.now).text)) ≤ length text.old }
+    ensures value { result ≡ pos + length (payload (text_loads (tag_number p.now.tag) (parsed_in src.now p.now).text)) }
+    ensures text_after { text.new ≡ laid text.old pos (payload (text_loads (tag_number p.now.tag) (parsed_in src.now p.now).text)) }
 {
     if p.kind != Kind::Whole {
         return pos;
@@ -102,7 +104,7 @@ fn append_name(text: &mut [u8], pos: usize, made: bool, drawn: u32) -> usize
 
 // Whether the event draws a name.
 pub fn is_made(event: &Indexed<'_>) -> bool
-    ensures { result ≡ made_in (parsed_in event.now.src.now event.now.plain) }
+    ensures { result ≡ made_in (parsed_in event.now.src.now event.now.plain.now) }
 {
     if event.plain.kind == Kind::End {
         return false;
@@ -123,14 +125,14 @@ pub fn append_event(
     text: &mut [u8],
     used: usize,
     src: &[u8],
-    p: Plain,
+    p: &Plain,
     made: bool,
     drawn: u32,
 ) -> Ends
-    requires drawn_le_drawn { (drawn ≤ limits01.drawn) × (made ≡ made_in (parsed_in src.now p)) }
-    requires drawn_in_bounds { used + length (payload_in (parsed_in src.now p) drawn) ≤ length text.old }
-    ensures value { result ≡ ends_in used (parsed_in src.now p) drawn }
-    ensures text_after { text.new ≡ laid text.old used (payload_in (parsed_in src.now p) drawn) }
+    requires drawn_le_drawn { (drawn ≤ limits01.drawn) × (made ≡ made_in (parsed_in src.now p.now)) }
+    requires drawn_in_bounds { used + length (payload_in (parsed_in src.now p.now) drawn) ≤ length text.old }
+    ensures value { result ≡ ends_in used (parsed_in src.now p.now) drawn }
+    ensures text_after { text.new ≡ laid text.old used (payload_in (parsed_in src.now p.now) drawn) }
 {
     let values = append_values(text, used, src, p);
     let end = append_text(text, values, src, p);
@@ -142,8 +144,8 @@ pub fn append_event(
 }
 
 // "texts (assign: twice and two more)"
-fn text_charge(src: &[u8], p: Plain) -> usize
-    ensures value { result ≡ text_charge (tag_number p.tag) (parsed_in src.now p).text }
+fn text_charge(src: &[u8], p: &Plain) -> usize
+    ensures value { result ≡ text_charge (tag_number p.now.tag) (parsed_in src.now p.now).text }
     ensures upper_bound { result ≤ 131072 }
 {
     if p.kind != Kind::Whole {
@@ -168,8 +170,8 @@ fn name_charge(made: bool, drawn: u32) -> usize
 }
 
 pub fn charge(event: &Indexed<'_>, made: bool, drawn: u32) -> usize
-    requires drawn_le_drawn { (drawn ≤ limits01.drawn) × (made ≡ made_in (parsed_in event.now.src.now event.now.plain)) }
-    ensures value { result ≡ charge_in (parsed_in event.now.src.now event.now.plain) drawn }
+    requires drawn_le_drawn { (drawn ≤ limits01.drawn) × (made ≡ made_in (parsed_in event.now.src.now event.now.plain.now)) }
+    ensures value { result ≡ charge_in (parsed_in event.now.src.now event.now.plain.now) drawn }
     ensures upper_bound { result < 2097152 }
 {
     event.total + text_charge(event.src, event.plain) + name_charge(made, drawn)

@@ -16,25 +16,25 @@ use lines::part_of;
 #[derive(Clone, Copy)]
 pub struct Indexed<'a> {
     pub src: &'a [u8],
-    pub plain: Plain,
-    pub keys: Keyed,
+    pub plain: &'a Plain,
+    pub keys: &'a Keyed,
     pub total: usize,
-    ghost keyed: { keys ≡ keyed_of (slots_of plain) },
-    ghost summed: { total ≡ length (payload (loads_in src.now (slots_of plain))) },
+    ghost keyed: { keys.now ≡ keyed_of (slots_of plain.now) },
+    ghost summed: { total ≡ length (payload (loads_in src.now (slots_of plain.now))) },
     ghost bounded: { total ≤ 1048576 },
 }
 
 impl Indexed<'_> {
     /// Whether it has a value for a key.
     pub fn has(&self, key: Key) -> bool
-        ensures { result ≡ has_load (key_number key) (loads_in self.now.src.now (slots_of self.now.plain)) }
+        ensures { result ≡ has_load (key_number key) (loads_in self.now.src.now (slots_of self.now.plain.now)) }
     {
         self.keys.there[key_index(key)] != 0
     }
 
     /// A key's first value; no bytes without it.
     pub fn value(&self, key: Key) -> &[u8]
-        ensures result_value { result.now ≡ value_in (key_number key) (loads_in self.now.src.now (slots_of self.now.plain)) }
+        ensures result_value { result.now ≡ value_in (key_number key) (loads_in self.now.src.now (slots_of self.now.plain.now)) }
         ensures result_len_bound { length result.now < 65536 }
     {
         let k = key_index(key);

@@ -2,12 +2,12 @@
 
 #![tactic(auto)]
 
-ghost use Rattle.std.specs.Prelude.{◌≡◌, ◌+◌, ◌-◌, ◌<◌, ◌≤◌, ◌++◌, length, take, drop};
+ghost use Rattle.std.specs.Prelude.{◌≡◌, ◌+◌, ◌-◌, ◌<◌, ◌≤◌, ◌++◌, length, take, drop, []};
 ghost use Rattle.definition.specs.Codes.{kind_number, key_code};
 ghost use Rattle.parts.specs.Parts.{text_of as text_in};
 ghost use Rattle.event.specs.Described.{read, described_by};
-ghost use Rattle.plain.specs.Plain.{is_plain, plainly, span_of, span_in, PlainOf, text_part, slot_bytes, parsed_in, parsed_raw, Space};
-ghost use Rattle.plain.specs.Keyed.{key_place};
+ghost use Rattle.plain.specs.Plain.{is_plain, plainly, span_of, span_in, PlainOf, text_part, slot_bytes, slots_of, parsed_in, parsed_raw, Space};
+ghost use Rattle.plain.specs.Keyed.{key_place, keyed_of};
 
 pub mod indexed;
 
@@ -40,9 +40,9 @@ impl Slot {
 /// An event: the first `count` of `slots` are its values, in order. Of a `whole` event `text` is the text.
 #[derive(Clone, Copy)]
 pub struct Plain {
+    pub count: usize,
     pub kind: Kind,
     pub tag: Tag,
-    pub count: usize,
     pub name: Slot,
     pub text: Slot,
     pub slots: [Slot; Plain::SLOTS],
@@ -64,6 +64,13 @@ impl Plain {
 
     /// Room for the parts of any event in form: its name, its values and its text.
     pub const COPY: usize = 20_544;
+
+    /// Its values, in order.
+    pub fn values(&self) -> &[Slot]
+        ensures { result.now ≡ slots_of self.now }
+    {
+        &self.slots[..self.count.min(Plain::SLOTS)]
+    }
 }
 
 /// The first value of each key, by the key's number: 1 where it is there, and where it stands; zeros where it is not. Three arrays of numbers, since they are
@@ -73,6 +80,20 @@ pub struct Keyed {
     pub there: [u8; Plain::KEYS],
     pub at: [u16; Plain::KEYS],
     pub len: [u16; Plain::KEYS],
+}
+
+impl Keyed {
+    /// No value of any key.
+    #[tactic(auto, unfolding(crate::specs::Keyed::keyed_of, crate::specs::Keyed::by_key))]
+    pub fn none() -> Keyed
+        ensures { result ≡ keyed_of [] }
+    {
+        Keyed {
+            there: [0; Plain::KEYS],
+            at: [0; Plain::KEYS],
+            len: [0; Plain::KEYS],
+        }
+    }
 }
 
 #[tactic(auto, unfolding(crate::specs::Plain::is_plain))]
@@ -190,26 +211,24 @@ fn place_of(slot: Slot) -> usize
 }
 
 // From the last value to the first, so that the first one of a key stays.
-pub fn index(src: &[u8], p: Plain) -> Indexed<'_>
+pub fn index<'a>(src: &'a [u8], p: &'a Plain, keys: &'a mut Keyed) -> Indexed<'a>
     ensures src_value { result.src.now ≡ src.now }
-    ensures plain_value { result.plain ≡ p }
+    ensures plain_value { result.plain.now ≡ p.now }
 {
-    let mut there = [0u8; Plain::KEYS];
-    let mut at = [0u16; Plain::KEYS];
-    let mut len = [0u16; Plain::KEYS];
+    *keys = Keyed::none();
     let mut total = 0;
     for i in (0..at_most_16(p.count)).rev() {
         let s = p.slots[i];
         let k = place_of(s);
-        there[k] = 1;
-        at[k] = s.at;
-        len[k] = s.len;
+        keys.there[k] = 1;
+        keys.at[k] = s.at;
+        keys.len[k] = s.len;
         total += bytes_of(src, s).len();
     }
     Indexed {
         src,
         plain: p,
-        keys: Keyed { there, at, len },
+        keys,
         total,
     }
 }

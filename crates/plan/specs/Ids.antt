@@ -1,5 +1,6 @@
--- Numbers of states, transitions and regions, typed; the numbers of shapes and of types of a transition.
-use Rattle.std.specs.Prelude.{ℕ}
+-- Numbers of states, transitions and regions, typed; the numbers of shapes and of types of a transition; what an event's numbers count as.
+use Rattle.std.specs.Prelude.{ℕ, zero, suc, true, false, leb}
+use Rattle.definition.specs.Elements.{tag}
 use Rattle.definition.specs.declared.StateId.{StateId}
 use Rattle.definition.specs.declared.TransitionId.{TransitionId}
 use Rattle.definition.specs.declared.RegionId.{RegionId}
@@ -25,3 +26,14 @@ shape_number S.Third = 2
 abbrev pub mode_number : TransitionType → ℕ
 mode_number M.External = 0
 mode_number M.Internal = 1
+
+-- A kind past `end` counts as `end`.
+unfoldable pub kind_counted : ℕ → ℕ
+kind_counted zero = 0
+kind_counted (suc zero) = 1
+kind_counted (suc (suc zero)) = 2
+kind_counted (suc (suc (suc k))) = 3
+
+-- A number past the last element's counts as `unknown`.
+unfoldable pub tag_counted : ℕ → ℕ
+tag_counted g = elim (leb g tag.include) [ true ↦ g | false ↦ tag.unknown ]

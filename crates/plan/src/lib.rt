@@ -3,7 +3,8 @@
 #![tactic(auto)]
 
 ghost use Rattle.std.specs.Prelude.{◌≡◌};
-ghost use Rattle.plan.specs.Ids.{shape_number, mode_number};
+ghost use Rattle.definition.specs.Codes.{kind_number, tag_number};
+ghost use Rattle.plan.specs.Ids.{shape_number, mode_number, kind_counted, tag_counted};
 
 use definition::codes::{EntryKind, Kind, ListKind, OwnerKind, Tag};
 use definition::{RegionId, StateId, TransitionId};
@@ -13,6 +14,70 @@ use definition::{RegionId, StateId, TransitionId};
 pub struct Element {
     pub kind: Kind,
     pub tag: Tag,
+}
+
+impl Element {
+    /// By an event's numbers, whatever they are: a kind past the last counts as `End`, an element past the last as `Unknown`.
+    #[inline]
+    pub fn of(kind: u32, tag: u32) -> Element
+        ensures kind { kind_number result.kind ≡ kind_counted kind }
+        ensures tag { tag_number result.tag ≡ tag_counted tag }
+    {
+        Element {
+            kind: kind_of(kind),
+            tag: tag_of(tag),
+        }
+    }
+}
+
+#[tactic(auto, unfolding(crate::specs::Ids::kind_counted), using(crate::proofs::Elements::kind_past))]
+#[inline]
+fn kind_of(kind: u32) -> Kind
+    ensures { kind_number result ≡ kind_counted kind }
+{
+    match kind {
+        0 => Kind::Open,
+        1 => Kind::Empty,
+        2 => Kind::Whole,
+        _ => Kind::End,
+    }
+}
+
+#[tactic(auto, unfolding(crate::specs::Ids::tag_counted), using(crate::proofs::Elements::tag_past))]
+#[inline]
+fn tag_of(tag: u32) -> Tag
+    ensures { tag_number result ≡ tag_counted tag }
+{
+    match tag {
+        1 => Tag::Scxml,
+        2 => Tag::State,
+        3 => Tag::Parallel,
+        4 => Tag::Datamodel,
+        5 => Tag::Final,
+        6 => Tag::History,
+        7 => Tag::Initial,
+        8 => Tag::Invoke,
+        9 => Tag::Data,
+        10 => Tag::Donedata,
+        11 => Tag::Finalize,
+        12 => Tag::Else,
+        13 => Tag::Elseif,
+        14 => Tag::Param,
+        15 => Tag::Content,
+        16 => Tag::Transition,
+        17 => Tag::Onentry,
+        18 => Tag::Onexit,
+        19 => Tag::Send,
+        20 => Tag::Raise,
+        21 => Tag::Cancel,
+        22 => Tag::Log,
+        23 => Tag::Assign,
+        24 => Tag::If,
+        25 => Tag::Foreach,
+        26 => Tag::Script,
+        27 => Tag::Include,
+        _ => Tag::Unknown,
+    }
 }
 
 /// Which of the rows that an element's texts can fill: most elements have one; the others say below what their second and third are.
@@ -241,10 +306,10 @@ pub struct Plan {
     pub counters: CounterPlan,
 }
 
-/// All that an accepted event does: its plan, whether it draws a name, and what it takes of the text charge.
+/// All that an accepted event does: its plan, where it was decided, whether it draws a name, and what it takes of the text charge.
 #[derive(Clone, Copy)]
-pub struct Effect {
-    pub plan: Plan,
+pub struct Effect<'a> {
+    pub plan: &'a Plan,
     pub made: bool,
     pub charge: u32,
 }

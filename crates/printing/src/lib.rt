@@ -10,8 +10,8 @@ ghost use Rattle.printing.specs.Put.{Put};
 pub mod page;
 
 use definition::cells::MemberColumn;
-use itoa::Buffer;
 use page::Page;
+use written::{digit_count, put_digits};
 
 impl<'a> Page<'a> {
     pub fn new(buffer: &'a mut [u8]) -> Page<'a>
@@ -35,7 +35,10 @@ impl Page<'_> {
     fn put_number(&mut self, n: u64)
         ensures { Put self.old self.new (decimal n) }
     {
-        self.put_bytes(Buffer::new().format(n).as_bytes());
+        let mut room = [0; 20];
+        let digits = &mut room[..digit_count(n)];
+        put_digits(digits, n);
+        self.put_bytes(digits);
     }
 
     // By `if`, since the last arm of a `match` on a byte does not say which bytes it is not.

@@ -3,3 +3,4 @@ pub mod Cells
 pub mod Enough
 pub mod All
 pub mod Nexts
+pub mod Elements

@@ -371,9 +371,9 @@ fn initial_of(states: &[[u32; 24]], s: StateId) -> TransitionId
     TransitionId(state_cell(states, s, StateColumn::INITIAL))
 }
 
-/// All that is seen for an event, and an element that names the state own. The tables are the rows in use.
+/// All that is seen for an event's element that names the state own.
 #[tactic(auto, unfolding(crate::specs::View::seen_by, crate::specs::View::inside_of))]
-pub fn see(element: Element, own: StateId, position: Position, used: Tables<'_>) -> Seen
+fn seen_for(element: Element, own: StateId, position: Position, used: Tables<'_>) -> Seen
     requires { Short used.transitions.now used.entries.now used.invokes.now used.open_regions.now }
     ensures { result ≡ seen_by (kind_number element.kind) (tag_number element.tag) own.0 position used.entry.chart.now used.entry.states.now used.entry.transitions.now used.entry.entries.now used.entry.invokes.now used.entry.members.now used.entry.opened.now used.entry.open_regions.now }
 {
@@ -410,4 +410,14 @@ pub fn see(element: Element, own: StateId, position: Position, used: Tables<'_>)
         own: initial_of(used.states, own),
         eldest: kin.eldest,
     }
+}
+
+/// All that is seen for an event, by its numbers, and an element that names the state own: a kind past the last is an end, an element past the last is unknown. The
+/// tables are the rows in use.
+#[tactic(auto, using(crate::proofs::Elements::seen_counted))]
+pub fn see(kind: u32, tag: u32, own: StateId, position: Position, used: Tables<'_>) -> Seen
+    requires { Short used.transitions.now used.entries.now used.invokes.now used.open_regions.now }
+    ensures { result ≡ seen_by kind tag own.0 position used.entry.chart.now used.entry.states.now used.entry.transitions.now used.entry.entries.now used.entry.invokes.now used.entry.members.now used.entry.opened.now used.entry.open_regions.now }
+{
+    seen_for(Element::of(kind, tag), own, position, used)
 }

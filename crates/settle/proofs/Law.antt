@@ -44,13 +44,14 @@ use Rattle.see.specs.View.{seen_by, Short}
 use Rattle.see.proofs.All.{seen_in, plan_of_seen, small_seen}
 use Rattle.definition.specs.Codes.{refusal_number}
 use Rattle.definition.specs.declared.codes.Refusal.{Refusal}
-use Rattle.std.proofs.Common.{Result, Ok, Err, IfOk}
+use Rattle.std.proofs.Common.{Result, Ok, Err, IfOk, MatchResult}
 use Rattle.decision.specs.Told.{told}
 use Rattle.decide.specs.Within.{within}
 use Rattle.decide.proofs.Counted.{counted}
 use Rattle.whole.specs.Accepted.{Ready, afterwards}
 use Rattle.whole.proofs.Sizes.{Sized, sized}
-use Rattle.settle.specs.Settled.{InForm, first_of, Takes, Refuses}
+use Rattle.plan.specs.declared.Effect.{Effect}
+use Rattle.settle.specs.Settled.{InForm, first_of, Takes, Refuses, Settles}
 
 ids_all : (t : List ℕ) (rs : Table) → All (λ (r : Row). Fits (length t) (cell_at r 1).at (cell_at r 1).len) rs → All (Inside t) (ids rs)
 unfolding ids
@@ -317,20 +318,35 @@ module _ (xs : Tables) (p : Position) (v : Parsed) where
     abbrev number : ℕ
     number = first_of m.no g (λ x. within limits01 p m.refs m.new m.made m.charge x)
 
-    pub settles : (q : Plan) → number ≡ 0 → g ≡ Ok q → Takes x p v (record { plan = q; made = m.made; charge = m.charge })
+    takes : (f : Effect) → number ≡ 0 → g ≡ Ok f.plan.now → f.made ≡ m.made → f.charge ≡ m.charge → Takes x p v f
     unfolding ready
-    settles q z e = record { reply = λ A. accepts A m em u eu g eg q z e; ready = λ A. ready A m em u eu g eg q z e; same = λ A. refl }
+    takes f z e made charge =
+        record {
+          reply = λ A. accepts A m em u eu g eg f.plan.now z e;
+          ready = λ A. (
+              let R : Ready x p v f.plan.now m.made m.charge = ready A m em u eu g eg f.plan.now z e in record { accepted = R.accepted; makes = made ∙ R.makes; takes = charge ∙ R.takes }
+              );
+          same = λ A. refl;
+        }
 
-    pub refused : (k : Refusal) → refusal_number k ≡ number → Refuses x p v k
+    refused : (k : Refusal) → refusal_number k ≡ number → Refuses x p v k
     refused k e A = refuses A m em u eu g eg k e
 
--- ---- by the rows in use, as they are handed on
+    -- What is answered: by the first no, for an accepted event and for each refusal.
+    pub settles : (r : Result Effect Refusal) → MatchResult r (λ f. (number ≡ 0) × ((g ≡ Ok f.plan.now) × ((f.made ≡ m.made) × (f.charge ≡ m.charge)))) (λ k. refusal_number k ≡ number) → Settles x p v r
+    settles (Ok f) h = takes f h.0 h.1.0 h.1.1.0 h.1.1.1
+    settles (Err k) h = refused k h
+
+-- ---- by the numbers and the rows in use, as they are handed on
+
+pub planned_by : (q g : ℕ) (u : Seen) (w : Heard) {kind tag : ℕ} {x : Planned} → kind ≡ q → tag ≡ g → x ≡ plan_by kind tag u w → x ≡ plan_by q g u w
+planned_by q g u w ek et e = e ∙ (λ z. plan_by (ek z) (et z) u w)
 
 module _ {xs : Tables} {p : Position} {us : Tables} (U : RowsInUse xs p us) where
   pub looked : {m : Told} (v : Parsed) → m ≡ looked_in us.chart.now us.states.now us.datums.now us.opened.now us.open_names.now us.text.now p v
       → m ≡ looked_in (take 1 xs.chart.now) (take p.states xs.states.now) (take p.datums xs.datums.now) (take p.opened xs.opened.now) (take p.opened xs.open_names.now) (take p.used xs.text.now) p v
   looked v e = e ∙ (λ z. looked_in (U.chart z) (U.states z) (U.datums z) (U.opened z) (U.open_names z) (U.text z) p v)
 
-  pub seen : (q g w : ℕ) {u : Seen} → u ≡ seen_by q g w p us.chart.now us.states.now us.transitions.now us.entries.now us.invokes.now us.members.now us.opened.now us.open_regions.now
+  pub seen : (q g w : ℕ) {kind tag : ℕ} {u : Seen} → kind ≡ q → tag ≡ g → u ≡ seen_by kind tag w p us.chart.now us.states.now us.transitions.now us.entries.now us.invokes.now us.members.now us.opened.now us.open_regions.now
       → u ≡ seen_by q g w p (take 1 xs.chart.now) (take p.states xs.states.now) (take p.transitions xs.transitions.now) (take p.entries xs.entries.now) (take p.invokes xs.invokes.now) (take p.members xs.members.now) (take p.opened xs.opened.now) (take p.open_regions xs.open_regions.now)
-  seen q g w e = e ∙ (λ z. seen_by q g w p (U.chart z) (U.states z) (U.transitions z) (U.entries z) (U.invokes z) (U.members z) (U.opened z) (U.open_regions z))
+  seen q g w ek et e = e ∙ (λ z. seen_by (ek z) (et z) w p (U.chart z) (U.states z) (U.transitions z) (U.entries z) (U.invokes z) (U.members z) (U.opened z) (U.open_regions z))

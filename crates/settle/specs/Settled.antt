@@ -29,8 +29,8 @@ first_of (suc k) d w = suc k
 
 -- The event gets 0 and does f.
 pub record Takes (x : Lent) (p : Position) (v : Parsed) (f : Effect) : Type 0 where
-  pub reply : (A : InForm x p v) → reply_to limits01 (store_of x p) (some A.event) ≡ record { number = 0; store = afterwards (store_of x p) A.event f.plan }
-  pub ready : InForm x p v → Ready x p v f.plan f.made f.charge
+  pub reply : (A : InForm x p v) → reply_to limits01 (store_of x p) (some A.event) ≡ record { number = 0; store = afterwards (store_of x p) A.event f.plan.now }
+  pub ready : InForm x p v → Ready x p v f.plan.now f.made f.charge
   pub same : (A : InForm x p v) → (ready A).accepted.event ≡ A.event
 
 -- The event gets the number of k.

@@ -6,6 +6,7 @@ ghost use Rattle.std.specs.Prelude.{◌≡◌, Ok, IfOk, MatchResult};
 ghost use Rattle.definition.specs.Limits.{limits01};
 ghost use Rattle.definition.specs.Codes.{refusal_number, outcome};
 ghost use Rattle.plain.specs.Plain.{parsed_in};
+ghost use Rattle.decision.specs.Told.{placed};
 ghost use Rattle.rows.specs.Lent.{seen_of};
 ghost use Rattle.plan.specs.Small.{Counted, Brought};
 ghost use Rattle.decide.specs.Within.{within};
@@ -17,41 +18,45 @@ use definition::Position;
 use definition::codes::Refusal;
 use look::{Looked, look};
 use plain::Plain;
-use plan::{Effect, Element, Plan};
+use plan::{Effect, Plan};
 use rows::lent::Tables;
 use see::see;
 
 /// The plan, or the first no: 15 is asked last, and only of an event that has a plan.
 #[tactic(auto, unfolding(crate::specs::Settled::first_of))]
-fn decided(l: Looked, p: Position, d: Decision) -> Result<Plan, Refusal>
-    requires { IfOk d (λ plan. Counted p × Brought l.refs l.new l.charge plan) }
-    ensures { let number = first_of (outcome l.asked) d (λ plan. within limits01 p l.refs l.new l.made l.charge plan) in MatchResult result (λ plan. (number ≡ 0) × (d ≡ Ok plan)) (λ k. refusal_number k ≡ number) }
+fn decided(l: Looked, p: Position, d: Decision, plan: &Plan) -> Result<(), Refusal>
+    requires { IfOk (placed d plan.now) (λ plan. Counted p × Brought l.refs l.new l.charge plan) }
+    ensures { let number = first_of (outcome l.asked) (placed d plan.now) (λ plan. within limits01 p l.refs l.new l.made l.charge plan) in MatchResult result (λ u. (number ≡ 0) × (placed d plan.now ≡ Ok plan.now)) (λ k. refusal_number k ≡ number) }
 {
     l.asked?;
-    let plan = d?;
+    d?;
     if !stays_within(p, l.refs, l.new, l.made, l.charge, plan) {
         return Err(Refusal::Full);
     }
-    Ok(plan)
+    Ok(())
 }
 
 /// Of tables that are long enough and in order.
-pub fn settle(tables: Tables<'_>, p: Position, src: &[u8], pl: Plain) -> Result<Effect, Refusal>
-    requires { InForm (seen_of tables) p (parsed_in src.now pl) }
-    ensures { Settles (seen_of tables.entry) p (parsed_in src.now pl) result }
+pub fn settle<'a>(
+    tables: Tables<'_>,
+    p: Position,
+    src: &[u8],
+    pl: &Plain,
+    plan: &'a mut Plan,
+) -> Result<Effect<'a>, Refusal>
+    requires { InForm (seen_of tables) p (parsed_in src.now pl.now) }
+    ensures { Settles (seen_of tables.entry) p (parsed_in src.now pl.now) result }
 {
     let used = tables.in_use(p);
     let l = look(used, src, pl, p);
-    let element = Element {
-        kind: pl.kind,
-        tag: pl.tag,
-    };
-    let v = see(element, l.heard.own, p, used);
-    let d = decide(element, v, l.heard);
+    let kind = pl.kind.number();
+    let tag = pl.tag.number();
+    let v = see(kind, tag, l.heard.own, p, used);
+    let decision = decide(kind, tag, &v, &l.heard, plan);
     // `?` was tried: the proof does not close, since the refusal goes through its conversion and the clause is a law about it.
-    match decided(l, p, d) {
+    match decided(l, p, decision, plan) {
         Err(refusal) => Err(refusal),
-        Ok(plan) => Ok(Effect {
+        Ok(()) => Ok(Effect {
             plan,
             made: l.made,
             charge: l.charge as u32,

@@ -46,9 +46,9 @@ fn region_row(i: RegionId) -> [u32; 8]
 }
 
 #[tactic(auto, unfolding(crate::specs::Whole::regions_in, crate::specs::Whole::both_in, crate::specs::Whole::added_in, plan::specs::Decided::one_there))]
-pub fn change_regions(regions: &mut [[u32; 8]], n: usize, p: RegionPlan)
+pub fn change_regions(regions: &mut [[u32; 8]], n: usize, p: &RegionPlan)
     requires { n < 65536 }
-    ensures { regions.new ≡ regions_in p n regions.old }
+    ensures { regions.new ≡ regions_in p.now n regions.old }
 {
     put_two(regions, n, p.one.map(region_row), p.two.map(region_row));
 }
@@ -62,17 +62,22 @@ fn member_row(p: MemberPlan) -> [u32; 8]
 
 /// Both members that are named one by one, from the row n on.
 #[tactic(auto, unfolding(crate::specs::Whole::members_in, crate::specs::Whole::both_in, crate::specs::Whole::added_in, plan::specs::Decided::one_there))]
-pub fn add_two(members: &mut [[u32; 8]], n: usize, one: Option<MemberPlan>, two: Option<MemberPlan>)
+pub fn add_two(
+    members: &mut [[u32; 8]],
+    n: usize,
+    one: &Option<MemberPlan>,
+    two: &Option<MemberPlan>,
+)
     requires { n < 65536 }
-    ensures { members.new ≡ members_in one two n members.old }
+    ensures { members.new ≡ members_in one.now two.now n members.old }
 {
     put_two(members, n, one.map(member_row), two.map(member_row));
 }
 
 // The tag is a number, as the row gets it: C lends rows of numbers.
 #[tactic(auto, unfolding(crate::specs::Whole::opened_row))]
-fn opened_row(tag: u32, p: OpenPlan, name: OpenedName) -> [u32; 8]
-    ensures { result ≡ opened_row tag p name }
+fn opened_row(tag: u32, p: OpenPlan, name: &OpenedName) -> [u32; 8]
+    ensures { result ≡ opened_row tag p name.now }
 {
     let inside = opened(p.state, p.transition, tag);
     [
@@ -94,9 +99,9 @@ pub fn change_opened(
     n: usize,
     tag: u32,
     p: OpenPlan,
-    name: Option<OpenedName>,
+    name: &Option<OpenedName>,
 )
-    ensures { opened.new ≡ opened_in tag p name n opened.old }
+    ensures { opened.new ≡ opened_in tag p name.now n opened.old }
 {
     if let Some(name) = name {
         put(opened, n, opened_row(tag, p, name));
@@ -111,9 +116,9 @@ fn open_region_row(p: OpenRegion) -> [u32; 8]
 }
 
 #[tactic(auto, unfolding(crate::specs::Whole::open_regions_in, crate::specs::Whole::both_in, crate::specs::Whole::added_in, plan::specs::Decided::one_there))]
-pub fn change_open_regions(regions: &mut [[u32; 8]], p: OpenRegionPlan)
-    requires { p.kept < 65536 }
-    ensures { regions.new ≡ open_regions_in p regions.old }
+pub fn change_open_regions(regions: &mut [[u32; 8]], p: &OpenRegionPlan)
+    requires { p.now.kept < 65536 }
+    ensures { regions.new ≡ open_regions_in p.now regions.old }
 {
     put_two(
         regions,

@@ -73,11 +73,11 @@ fn slot_texts(t: &mut [u32], src: &[u8], slots: &[Slot], base: usize)
 }
 
 // All values, in order.
-fn value_texts(t: &mut [u32], src: &[u8], p: Plain, base: usize)
-    requires { base + length (payload (loads_in src.now (take p.count p.slots))) ≤ 65535 }
-    ensures { t.new ≡ texts_in base (loads_in src.now (take p.count p.slots)) t.old }
+fn value_texts(t: &mut [u32], src: &[u8], p: &Plain, base: usize)
+    requires { base + length (payload (loads_in src.now (take p.now.count p.now.slots))) ≤ 65535 }
+    ensures { t.new ≡ texts_in base (loads_in src.now (take p.now.count p.now.slots)) t.old }
 {
-    slot_texts(t, src, &p.slots[..p.count.min(Plain::SLOTS)], base);
+    slot_texts(t, src, p.values(), base);
 }
 
 // The event's own texts: trimmed, an assign's in quotes, and as a content.
@@ -145,9 +145,9 @@ fn put_made(t: &mut [u32], made: bool, e: Ends)
 }
 
 /// Where the texts of an event lie in the arena, by key, put into a table of zeros: its payload begins at `base`, and its parts end as `e` says.
-pub fn texts_of(t: &mut [u32], src: &[u8], p: Plain, base: usize, made: bool, e: Ends)
-    requires { (t.old ≡ replicate 64 0) × Ended base (parsed_in src.now p) e }
-    ensures { Texts base (parsed_in src.now p) made e t.new }
+pub fn texts_of(t: &mut [u32], src: &[u8], p: &Plain, base: usize, made: bool, e: Ends)
+    requires { (t.old ≡ replicate 64 0) × Ended base (parsed_in src.now p.now) e }
+    ensures { Texts base (parsed_in src.now p.now) made e t.new }
 {
     let text = bytes_of(src, p.text);
     value_texts(t, src, p, base);

@@ -11,7 +11,7 @@ use lib.Seq.{take_all, take-suc, take_at, length-take-le}
 use borrow.Author.Tests.{eq-eqb, ne_eqb}
 use Rattle.definition.proofs.Base.{same_length}
 use Rattle.definition.specs.Text.{Span, same, trimmed, bytes_at, is_space, body_length, leading, trim, strip_last, stripped}
-use Rattle.words.specs.Next.{IsShorter, gap, as_span}
+use Rattle.words.specs.Next.{IsShorter, goes, gap, as_span}
 use Rattle.words.specs.declared.Part.{Part}
 use Rattle.words.proofs.Laws.{by, gap_le}
 
@@ -70,6 +70,11 @@ module _ (w : List ℕ) (n : ℕ) (some : 0 < n) (long : n ≤ length w) where
 -- ---- what an event word loses
 
 module _ (b : ℕ) where
+  goes_dot : (r : List ℕ) → eqb b 46 ≡ true → goes (b ∷ r) ≡ 1
+  unfolding goes
+  goes_dot [] e = rw (e, goes)
+  goes_dot (c ∷ r) e = rw (e, goes)
+
   strip_dot : (r : List ℕ) → eqb b 46 ≡ true → strip_last (b ∷ r) ≡ strip_last r
   unfolding strip_last
   strip_dot [] e = ap (λ (t : Bool). elim t [ true ↦ [] | false ↦ b ∷ [] ]) e
@@ -80,6 +85,10 @@ module _ (b : ℕ) where
   strip_one e = ap (λ (t : Bool). elim t [ true ↦ [] | false ↦ b ∷ [] ]) e
 
   module _ (c : ℕ) (r : List ℕ) (e : eqb b 46 ≡ false) where
+    goes_star : (eqb b 42 && eqb c 46) ≡ true → goes (b ∷ c ∷ r) ≡ 2
+    unfolding goes
+    goes_star f = rw (e, goes) (rw f)
+
     strip_pair : strip_last (b ∷ c ∷ r) ≡ elim (eqb b 42 && eqb c 46) [ true ↦ strip_last r | false ↦ b ∷ c ∷ r ]
     unfolding strip_last
     strip_pair = ap (λ (t : Bool). elim t [ true ↦ strip_last (c ∷ r) | false ↦ elim (eqb b 42 && eqb c 46) [ true ↦ strip_last r | false ↦ b ∷ c ∷ r ] ]) e
@@ -118,6 +127,9 @@ module _ (w : List ℕ) where
   unfolding stripped
   kept e = sym (ap reverse e ∙ reverse-reverse w)
 
+  left : (l : List ℕ) → reverse w ≡ l → drop (goes (reverse w)) (reverse w) ≡ drop (goes l) l
+  left l e = ap (λ (x : List ℕ). drop (goes x) x) e
+
   pub nothing_goes : length w ≡ 0 → w ≡ stripped w
   unfolding strip_last
   nothing_goes h = kept (go w h)
@@ -132,7 +144,9 @@ module _ (w : List ℕ) where
 
     pub dot_goes : b ≡ 46 → IsShorter t w
     unfolding stripped
-    dot_goes h = (ap reverse (sym (ap strip_last rev_one ∙ strip_dot b (reverse t) (eq-eqb _ _ h))), omega arith)
+    dot_goes h =
+        let q : eqb b 46 ≡ true = eq-eqb _ _ h in
+        (ap reverse (sym (ap strip_last rev_one ∙ strip_dot b (reverse t) q)), omega arith, sym (left (b ∷ reverse t) rev_one ∙ ap (λ (n : ℕ). drop n (b ∷ reverse t)) (goes_dot b (reverse t) q)))
 
     module _ (n : b ≡ 46 → ⊥) where
       pub lone_stays : length t ≡ 0 → w ≡ stripped w
@@ -150,7 +164,10 @@ module _ (w : List ℕ) where
 
         pub star_goes : b ≡ 42 → c ≡ 46 → IsShorter u w
         unfolding stripped
-        star_goes h k = (ap reverse (sym (ap strip_last rev_two ∙ strip_star b c (reverse u) (ne_eqb _ _ n) (rw (eq-eqb _ _ h, eq-eqb _ _ k)))), omega arith)
+        star_goes h k =
+            let p : eqb b 46 ≡ false = ne_eqb _ _ n in
+            let q : (eqb b 42 && eqb c 46) ≡ true = rw (eq-eqb _ _ h, eq-eqb _ _ k) in
+            (ap reverse (sym (ap strip_last rev_two ∙ strip_star b c (reverse u) p q)), omega arith, sym (left (b ∷ c ∷ reverse u) rev_two ∙ ap (λ (n : ℕ). drop n (b ∷ c ∷ reverse u)) (goes_star b c (reverse u) p q)))
 
         pub star_stays : b ≡ 42 → (c ≡ 46 → ⊥) → w ≡ stripped w
         star_stays h k = kept (ap strip_last rev_two ∙ strip_two b c (reverse u) (ne_eqb _ _ n) (rw (eq-eqb _ _ h, ne_eqb _ _ k)) ∙ sym rev_two)

@@ -1,5 +1,5 @@
 -- What the next word of a text is, and what a walk from word to word finds.
-use Rattle.std.specs.Prelude.{ℕ, zero, suc, ◌≡◌, ◌+◌, ◌-◌, Bool, true, false, ◌<◌, List, [], ◌∷◌, length, take, drop, ltb}
+use Rattle.std.specs.Prelude.{ℕ, zero, suc, ◌≡◌, ◌+◌, ◌-◌, Bool, true, false, ◌&&◌, ◌<◌, List, [], ◌∷◌, reverse, length, take, drop, eqb, ltb}
 use Rattle.definition.specs.Text.{is_space, is_separator, Span, Piece, stripped}
 use Rattle.words.specs.declared.Word.{Word}
 use Rattle.words.specs.declared.Part.{Part}
@@ -49,6 +49,12 @@ moved o p = record { off = o + p.off; word = p.word }
 unfoldable pub as_span : Part → Span
 as_span p = record { off = p.off; len = p.len }
 
--- It is shorter than an event word, and stripped the same.
+-- How many bytes an event word loses at once; its bytes stand last first.
+unfoldable pub goes : List ℕ → ℕ
+goes [] = 0
+goes (b ∷ []) = elim (eqb b 46) [ true ↦ 1 | false ↦ 0 ]
+goes (b ∷ c ∷ r) = elim (eqb b 46) [ true ↦ 1 | false ↦ elim (eqb b 42 && eqb c 46) [ true ↦ 2 | false ↦ 0 ] ]
+
+-- It is an event word without what that loses at once: shorter, and stripped the same.
 abbrev pub IsShorter : List ℕ → List ℕ → Type 0
-IsShorter r w = (stripped r ≡ stripped w) × (length r < length w)
+IsShorter r w = (stripped r ≡ stripped w) × (length r < length w) × (reverse r ≡ drop (goes (reverse w)) (reverse w))

@@ -1,6 +1,6 @@
 -- What is known on the way: everything has its place, numbers stay small, and at the end it is what the definition says.
 use Prim.Native.Nat.{ℕ, ◌≤◌, ◌<◌}
-use mathlib.Core.Path.{◌≡◌, ap, ◌∙◌}
+use mathlib.Core.Path.{◌≡◌, sym, ap, ◌∙◌, subst}
 use mathlib.Core.Bool.{Bool}
 use mathlib.Core.List.{List}
 use native.Mathlib.Omega.{arith}
@@ -80,20 +80,25 @@ module _ (xs : Lent) (p : Position) (v : Parsed) (q : Plan) (made : Bool) (charg
     pub in_range : InRange p q v.kind made charge w
     in_range = D.in_range p a b c d f h i j k o y r tx v q R.accepted made R.makes charge R.takes st' ms' tx' t' w W
 
+    -- By a number of the event's kind.
+    pub in_range_by : {kind : ℕ} → kind ≡ v.kind → InRange p q kind made charge w
+    in_range_by e = subst (λ (z : ℕ). InRange p q z made charge w) (sym e) in_range
+
     pub apply_asks : {n : Position} → n ≡ rows_of p w.members → ((n.regions < 65536) × (n.members < 65536)) × (q.pending.kept < 65536)
     apply_asks e = ((omega (arith, ap (λ (z : Position). z.regions) e, in_range.regions), omega (arith, ap (λ (z : Position). z.members) e, in_range.members)), in_range.pending)
 
     pub leaves : {name : List ℕ} → name ≡ v.name → {o' : Option OpenedName} → o' ≡ opens (move_of v.kind) (length (kept_name v.tag name)) (name_row (kept_name v.tag name))
         → {n : Position} → n ≡ rows_of p w.members
         → {z : Reader.Lent} → z ≡ lent (applied_in t' v.tag o' n q a st' c d f h i j ms' o y r) tx'
-        → {u : Position} → u ≡ position_by p q v.kind made charge w
+        → {kind : ℕ} → kind ≡ v.kind
+        → {u : Position} → u ≡ position_by p q kind made charge w
         → Leaves (lent_of xs) p v q z u
-    leaves {name} en {o'} eo {n} ec {z} et {u} eu =
+    leaves {name} en {o'} eo {n} ec {z} et {kind} ek {u} eu =
         record {
           lent = λ A.
               et
               ∙ D.tables_done p a b c d f h i j k o y r tx v q A made R.makes charge R.takes st' ms' tx' t' w W (applied_in t' v.tag o' n q a st' c d f h i j ms' o y r) o'
               (eo ∙ ap (λ (z : List ℕ). opens (move_of v.kind) (length (kept_name v.tag z)) (name_row (kept_name v.tag z))) en)
               (λ z. applied_in t' v.tag o' (ec z) q a st' c d f h i j ms' o y r);
-          position = λ A. D.position_done p a b c d f h i j k o y r tx v q A made R.makes charge R.takes st' ms' tx' t' w W u eu;
+          position = λ A. D.position_done p a b c d f h i j k o y r tx v q A made R.makes charge R.takes st' ms' tx' t' w W u (eu ∙ (λ z. position_by p q (ek z) made charge w));
         }

@@ -29,9 +29,15 @@ fn rows_of(p: Position, members: usize) -> Position
 }
 
 /// All that an accepted event does: its texts, words and names first, then a row here and there, by its plan.
-pub fn write(lent: &mut Lent<'_>, p: Position, src: &[u8], pl: Plain, effect: Effect) -> Position
-    requires { Ready (lent_of lent.old) p (parsed_in src.now pl) effect.plan effect.made effect.charge }
-    ensures leaves { Leaves (lent_of lent.old) p (parsed_in src.now pl) effect.plan (lent_of lent.new) result }
+pub fn write(
+    lent: &mut Lent<'_>,
+    p: Position,
+    src: &[u8],
+    pl: &Plain,
+    effect: Effect<'_>,
+) -> Position
+    requires { Ready (lent_of lent.old) p (parsed_in src.now pl.now) effect.plan.now effect.made effect.charge }
+    ensures leaves { Leaves (lent_of lent.old) p (parsed_in src.now pl.now) effect.entry.plan.now (lent_of lent.new) result }
     ensures loans { SameLoans lent.old lent.new }
 {
     let mut t = [0u32; 64];
@@ -56,5 +62,5 @@ pub fn write(lent: &mut Lent<'_>, p: Position, src: &[u8], pl: Plain, effect: Ef
     };
     let opened = opened_name(element, bytes_of(src, pl.name));
     apply(lent, texts, opened, rows_of(p, w.members), effect.plan);
-    position_after(p, element, effect, w)
+    position_after(p, pl.kind.number(), effect, w)
 }

@@ -1,19 +1,19 @@
 -- What the writers need: runs of stores, digits, and escapes byte by byte.
 use mathlib.Core.Path.{◌≡◌, refl, ap, sym, ◌∙◌}
-use mathlib.Core.List.{List, [], ◌∷◌, ◌++◌}
+use mathlib.Core.List.{List, [], ◌∷◌, ◌++◌, append-nil}
 use mathlib.Core.Bool.{Bool, true, false}
-use Prim.Native.Nat.{ℕ, suc, ◌+◌, ◌≤◌, ◌<◌}
-use native.Mathlib.Nat.{add-zero, zero-add}
+use Prim.Native.Nat.{ℕ, zero, suc, ◌+◌, ◌-◌, ◌/◌, ◌%◌, ◌≤◌, ◌<◌}
+use native.Mathlib.Nat.{add-zero, zero-add, mod-eq_of_lt}
 use native.Mathlib.Numerals.{add-one}
 use native.Mathlib.Omega.{arith}
-use lib.Dec.{eqb}
+use lib.Dec.{eqb, ltb}
 use lib.ListN.{length, get_or, drop, set, drop_of_length-le, length-append}
 use borrow.Rule.Slice.PartMut.{put_mid}
-use Rattle.std.proofs.lemmas.List.{drop-drop}
+use Rattle.std.proofs.lemmas.List.{append_assoc, drop-drop, drop-set}
 use lib.Seq.{drop-cons, sets, sets-eq, length-sets}
-use borrow.Author.Tests.{le-leb, lt-leb, eq-eqb, ne_eqb, eqb-true, eqb-false}
+use borrow.Author.Tests.{lt-ltb, le-ltb, ltb-true, ltb-false, le-leb, lt-leb, eq-eqb, ne_eqb, eqb-true, eqb-false}
 use Rattle.words.proofs.Laws.{by}
-use Rattle.definition.specs.Text.{decimal, generated_name, str, escaped_quotes, quoted, trimmed}
+use Rattle.definition.specs.Text.{digits, decimal, generated_name, str, escaped_quotes, quoted, trimmed}
 use Rattle.std.specs.Prelude.{count_by}
 use Rattle.std.proofs.lemmas.List.Sums.{sum_by-cons}
 use mathlib.Core.Bool.{cond}
@@ -48,6 +48,94 @@ module _ (w t : List ℕ) where
   pub length_none : length t < length w → 0 ≡ written_length w t
   unfolding written_length
   length_none h = rw (lt-leb _ _ h, written_length)
+
+-- ---- digits
+
+module _ (f m : ℕ) where
+  pub digits_one : m < 10 → digits (suc f) m ≡ (48 + m % 10) ∷ []
+  unfolding digits
+  digits_one h = rw (mod-eq_of_lt h, lt-ltb _ _ h, digits)
+
+  pub digits_more : 10 ≤ m → digits (suc f) m ≡ digits f (m / 10) ++ (48 + m % 10) ∷ []
+  unfolding digits
+  digits_more h = rw (le-ltb _ _ h, digits)
+
+-- counting: k digits are passed, of twenty
+module _ (k m : ℕ) where
+  pub count_one : k < 20 → m < 10 → k + 1 ≡ k + length (digits (20 - k) m)
+  count_one h l = let e : 20 - k ≡ suc (20 - (k + 1)) = omega arith in rw (e, digits_one (20 - (k + 1)) m l)
+
+  pub count_more : k < 20 → 10 ≤ m → k + 1 + length (digits (20 - (k + 1)) (m / 10)) ≡ k + length (digits (20 - k) m)
+  count_more h l =
+      let f : ℕ = 20 - (k + 1) in
+      let e : 20 - k ≡ suc f = omega arith in
+      omega (arith, ap (λ (n : ℕ). length (digits n m)) e, ap length (digits_more f m l), length-append (digits f (m / 10)) ((48 + m % 10) ∷ []))
+
+  pub count_end : 20 ≤ k → k ≡ k + length (digits (20 - k) m)
+  unfolding digits
+  count_end h = let e : 20 - k ≡ 0 = omega arith in rw (e, add-zero)
+
+-- as much fuel as there are digits is enough
+digits_exact : (f c n : ℕ) → length (digits f n) ≡ c → digits c n ≡ digits f n
+unfolding digits
+digits_exact zero c n h = let e : c ≡ 0 = sym h in rw e
+digits_exact (suc f) c n h =
+    by (ltb n 10) (λ e.
+    let l : n < 10 = ltb-true _ _ e in
+    let k : c ≡ 1 = omega (arith, ap length (digits_one f n l)) in
+    rw k (digits_one 0 n l ∙ sym (digits_one f n l)))
+    (λ e.
+    let l : 10 ≤ n = ltb-false _ _ e in
+    let k : suc (length (digits f (n / 10))) ≡ c = omega (arith, ap length (digits_more f n l), length-append (digits f (n / 10)) ((48 + n % 10) ∷ [])) in
+    ap (λ (m : ℕ). digits m n) (sym k)
+    ∙ digits_more (length (digits f (n / 10))) n l
+    ∙ ap (λ (x : List ℕ). x ++ (48 + n % 10) ∷ []) (digits_exact f (length (digits f (n / 10))) (n / 10) refl)
+    ∙ sym (digits_more f n l))
+
+pub digits_all : (c n : ℕ) → c ≡ length (decimal n) → digits c n ≡ decimal n
+unfolding decimal
+digits_all c n e = digits_exact 20 c n (sym e)
+
+-- storing from the last one to the first: i digits are left, and i places
+module _ (l : List ℕ) (i m : ℕ) (some : 0 < i) (there : i ≤ length l) (long : length (digits i m) ≡ i) where
+  left : i ≡ suc (i - 1)
+  left = omega arith
+
+  one : m < 10 → digits i m ≡ (48 + m % 10) ∷ []
+  one h = ap (λ (k : ℕ). digits k m) left ∙ digits_one (i - 1) m h
+
+  more : 10 ≤ m → digits i m ≡ digits (i - 1) (m / 10) ++ (48 + m % 10) ∷ []
+  more h = ap (λ (k : ℕ). digits k m) left ∙ digits_more (i - 1) m h
+
+  stored : drop (i - 1) (set l (i - 1) (48 + m % 10)) ≡ (48 + m % 10) ∷ drop i l
+  stored = drop-set l (i - 1) (48 + m % 10) (omega arith) ∙ ap (λ (k : ℕ). (48 + m % 10) ∷ drop k l) (omega arith)
+
+  no_more : m < 10 → digits (i - 1) (m / 10) ≡ []
+  unfolding digits
+  no_more h = let e : i - 1 ≡ 0 = omega (arith, ap length (one h)) in rw e
+
+  pub put_long : length (digits (i - 1) (m / 10)) ≡ i - 1
+  put_long =
+      by (ltb m 10) (λ e. let h : m < 10 = ltb-true _ _ e in omega (arith, ap length (one h), ap length (no_more h)))
+      (λ e. let h : 10 ≤ m = ltb-false _ _ e in omega (arith, ap length (more h), length-append (digits (i - 1) (m / 10)) ((48 + m % 10) ∷ [])))
+
+  split : digits i m ≡ digits (i - 1) (m / 10) ++ (48 + m % 10) ∷ []
+  split =
+      by (ltb m 10) (λ e. let h : m < 10 = ltb-true _ _ e in one h ∙ ap (λ (x : List ℕ). x ++ (48 + m % 10) ∷ []) (sym (no_more h)))
+      (λ e. more (ltb-false _ _ e))
+
+  pub put_digit : digits (i - 1) (m / 10) ++ drop (i - 1) (set l (i - 1) (48 + m % 10)) ≡ digits i m ++ drop i l
+  put_digit =
+      ap (λ (x : List ℕ). digits (i - 1) (m / 10) ++ x) stored
+      ∙ sym (append_assoc (digits (i - 1) (m / 10)) ((48 + m % 10) ∷ []) (drop i l))
+      ∙ ap (λ (x : List ℕ). x ++ drop i l) (sym split)
+
+pub digits_begin : (l : List ℕ) (n : ℕ) → length l ≡ length (decimal n) → digits (length l) n ++ drop (length l) l ≡ decimal n
+digits_begin l n e = let k : length l ≤ length l = omega arith in rw (drop_of_length-le l k) (append-nil (digits (length l) n) ∙ digits_all (length l) n e)
+
+pub digits_end : (l : List ℕ) (i m : ℕ) → i ≤ 0 → l ≡ digits i m ++ drop i l
+unfolding digits
+digits_end l i m h = let e : i ≡ 0 = omega arith in rw e
 
 -- ---- generated names
 

@@ -1,4 +1,4 @@
-// Texts that the reader makes, written into a lent buffer: generated names, and an assign's text in quotes.
+// Texts that the reader makes, written into a lent buffer: decimal digits, generated names, and an assign's text in quotes.
 
 #![tactic(auto)]
 
@@ -7,22 +7,47 @@ ghost use Rattle.std.proofs.lemmas.List.Edits.{sets};
 ghost use Rattle.definition.specs.Text.{decimal, generated_name, escaped_quotes, quoted};
 ghost use Rattle.written.specs.Written.{written, written_length, escape, in_quotes};
 
-use itoa::Buffer;
 use words::trim;
+
+// How many decimal digits n has. Counted and put by hand, since of the kit's libraries only `std` is used.
+pub fn digit_count(n: u64) -> usize
+    ensures value { result ≡ length (decimal n) }
+    ensures upper_bound { result ≤ 20 }
+{
+    let mut m = n;
+    for k in 0..20 {
+        if m < 10 {
+            return k + 1;
+        }
+        m /= 10;
+    }
+    20
+}
+
+// The decimal digits of n, the last one first, into as many places as they take.
+pub fn put_digits(out: &mut [u8], n: u64)
+    requires count_value { length out.old ≡ length (decimal n) }
+    ensures { out.new ≡ decimal n }
+{
+    let mut m = n;
+    for i in (0..out.len()).rev() {
+        out[i] = b'0' + (m % 10) as u8;
+        m /= 10;
+    }
+}
 
 // `__id` and n. The length, or 0 where the buffer is too short: then nothing is written.
 pub fn put_generated(out: &mut [u8], n: u32) -> usize
     ensures value { result ≡ written_length (generated_name n) out.old }
     ensures out_after { out.new ≡ written (generated_name n) out.old }
 {
-    let mut buffer = Buffer::new();
-    let digits = buffer.format(n).as_bytes();
-    let end = 4 + digits.len();
+    let number = u64::from(n);
+    let end = 4 + digit_count(number);
     if out.len() < end {
         return 0;
     }
     out[..4].copy_from_slice(b"__id");
-    out[4..end].copy_from_slice(digits);
+    put_digits(&mut out[4..end], number);
     end
 }
 

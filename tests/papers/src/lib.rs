@@ -86,6 +86,16 @@ pub fn replacements(edit: &str) -> Vec<Replacement> {
     all
 }
 
+/// What a piece of Rattle asks before it goes on: the pattern of an arm, or the condition of an `if` or `while`; nothing where it asks nothing.
+pub fn condition(code: &str) -> &str {
+    if let Some((pattern, _)) = code.split_once("=>") {
+        return pattern;
+    }
+    let is_word = |at: &usize| !code[..*at].ends_with(|c: char| c.is_alphanumeric() || c == '_');
+    let begin = ["if ", "while "].iter().flat_map(|word| code.match_indices(word)).map(|(at, _)| at).find(is_word);
+    begin.and_then(|at| code[at..].split('{').next()).unwrap_or("")
+}
+
 /// How many operations a piece of Rattle has.
 pub fn operations(code: &str) -> usize {
     let operators =

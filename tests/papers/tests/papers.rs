@@ -136,8 +136,8 @@ fn without_goals(answer: &str) -> String {
     words.filter(|word| !is_made(word)).collect::<Vec<_>>().join(" ")
 }
 
-/// Words of proofs, the two of a Boolean and methods of the library, which need no import.
-const KNOWN_WORDS: [&str; 7] = ["checked_sub", "default", "elim", "false", "omega", "search", "true"];
+/// Words of proofs, the two of a Boolean, the empty option and methods of the library, which need no import.
+const KNOWN_WORDS: [&str; 8] = ["None", "checked_sub", "default", "elim", "false", "omega", "search", "true"];
 
 /// An edit that brings a name that its file does not know is refused for that, whatever the contract says. Codes, columns and the fields of a position and of a plan are known by their type;
 /// an edit may bring a name's `use` line.
@@ -160,69 +160,59 @@ fn edits_use_names_in_scope() {
     }
 }
 
-/// Those that turn a condition whose goals are named after a call or a loop, and so keep their names.
-const NAMED_OTHERWISE: [&str; 19] = [
-    "advance/must-fail/code_end_closes_nothing.edit",
-    "apply/must-fail/code_name_kept_at_an_end.edit",
-    "apply/must-fail/code_name_kept_of_an_empty.edit",
-    "definition/must-fail/entry_of_another_kind.edit",
-    "definition/must-fail/list_of_another_kind.edit",
-    "definition/must-fail/owner_of_another_kind.edit",
-    "elements/must-fail/code_else_for_elseif.edit",
-    "entries/must-fail/code_first_shape_for_all.edit",
+/// Whether a function has a proof of its own: without one no name of its goals is written anywhere.
+fn is_proved_by_hand(folder: &Path, part: &Replacement) -> bool {
+    let source = read(&folder.join(&part.file));
+    let Some(at) = source.find(&part.old) else { return true };
+    let Some((_, code)) = source[..at].rsplit_once("fn ") else { return true };
+    let (name, proofs) = (names(code)[0], folder.join("proofs"));
+    let is_its_own = |path: &PathBuf| {
+        let mut steps = path.strip_prefix(&proofs).expect("below proofs").iter();
+        steps.any(|step| step.to_string_lossy().trim_start_matches('+') == name)
+    };
+    files(&proofs).iter().any(is_its_own)
+}
+
+/// The edits that bring no proof, of which some part of code does this to a function that has one.
+fn edits_that(does: impl Fn(&Replacement) -> bool) -> Vec<String> {
+    let mut found = Vec::new();
+    for path in must_fail_files() {
+        let (folder, parts) = (path.ancestors().nth(2).expect("a crate"), replacements(&read(&path)));
+        let in_code =
+            |part: &Replacement| part.file.starts_with("src/") && does(part) && is_proved_by_hand(folder, part);
+        if parts.iter().any(in_code) && !parts.iter().any(|part| part.file.starts_with("proofs/")) {
+            found.push(path.strip_prefix(repository().join("crates")).expect("below crates").display().to_string());
+        }
+    }
+    found.sort();
+    found
+}
+
+/// Those that turn a condition whose goals are named after a call in it or the values that it compares, and so keep their names.
+const NAMED_OTHERWISE: [&str; 3] = [
     "found/must-fail/code_any_unknown.edit",
-    "keys/must-fail/key_misspelled.edit",
     "names/must-fail/code_near_unseen.edit",
-    "plain/must-fail/code_no_key_numbered.edit",
-    "reading/must-fail/kind_of_another.edit",
-    "rows/must-fail/place_next.edit",
-    "rows/must-fail/root_by_another_column.edit",
-    "settle/must-fail/code_fifteen_too_early.edit",
-    "texts/must-fail/code_text_as_quoted.edit",
-    "words/must-fail/star_alone_goes.edit",
     "written/must-fail/exact_fit_refused.edit",
 ];
 
 /// A goal is named after the condition before it. An edit that turns one and leaves the proof as it is would be refused for a goal that is not there.
 #[test]
 fn edits_of_conditions_bring_their_proofs() {
-    let turns = |part: &Replacement| ["if ", "while ", "=>"].iter().any(|word| part.old.contains(word));
-    let mut others = Vec::new();
-    for path in must_fail_files() {
-        let parts = replacements(&read(&path));
-        let in_code = parts.iter().any(|part| part.file.starts_with("src/") && turns(part));
-        if in_code && !parts.iter().any(|part| part.file.starts_with("proofs/")) {
-            others.push(path.strip_prefix(repository().join("crates")).expect("below crates").display().to_string());
-        }
-    }
-    others.sort();
-    assert_eq!(others, NAMED_OTHERWISE);
+    assert_eq!(edits_that(|part| condition(&part.old) != condition(&part.new)), NAMED_OTHERWISE);
 }
 
 /// Those that add or lose an operation of which no answer names the place.
-const MOVE_PLACES: [&str; 6] = [
-    "advance/must-fail/code_end_closes_nothing.edit",
-    "entries/must-fail/code_first_shape_for_all.edit",
+const MOVE_PLACES: [&str; 3] = [
+    "names/must-fail/code_near_unseen.edit",
     "names/must-fail/code_new_names_repeated.edit",
-    "reading/must-fail/highest_byte_first.edit",
     "see/must-fail/if_found_by_depth.edit",
-    "tables/must-fail/code_row_beyond_the_last.edit",
 ];
 
 /// An added or lost operation moves the places that a proof names: an edit that leaves the proof as it is would be refused for that. What an arm takes is none.
 #[test]
 fn edits_of_code_keep_its_operations() {
     let done = |code: &str| operations(code.split_once("=>").map_or(code, |(_, done)| done));
-    let mut others = Vec::new();
-    for path in must_fail_files() {
-        let parts = replacements(&read(&path));
-        let moves = |part: &Replacement| part.file.starts_with("src/") && done(&part.old) != done(&part.new);
-        if parts.iter().any(moves) && !parts.iter().any(|part| part.file.starts_with("proofs/")) {
-            others.push(path.strip_prefix(repository().join("crates")).expect("below crates").display().to_string());
-        }
-    }
-    others.sort();
-    assert_eq!(others, MOVE_PLACES);
+    assert_eq!(edits_that(|part| done(&part.old) != done(&part.new)), MOVE_PLACES);
 }
 
 /// docs/SCOPE.md: `path: name, name` or a path alone.

@@ -11,16 +11,16 @@ use Rattle.asked.proofs.left_out.Goals as goal
 
 pub returns-in-Include : goal.returns-in-Include
 unfolding asked_in parsed_in
-returns-in-Include c = out_include (there (parsed_in c.args.event.now.src.now c.args.event.now.plain)) (tag_number c.args.event.now.plain.tag) (ap tag_number c.in-Include.is)
+returns-in-Include c = out_include (there (parsed_in c.args.event.now.src.now c.args.event.now.plain.now)) (tag_number c.args.event.now.plain.now.tag) (ap tag_number c.in-Include.is)
 
 pub returns-in-Data : goal.returns-in-Data
 unfolding asked_in parsed_in left_out_keys
-returns-in-Data c = elim c.in-Data.is [ inl e ↦ out_at (there (parsed_in c.args.event.now.src.now c.args.event.now.plain)) (tag_number c.args.event.now.plain.tag) 9 9 refl refl (ap tag_number e) _ c.has.ensures | inr e ↦ out_at (there (parsed_in c.args.event.now.src.now c.args.event.now.plain)) (tag_number c.args.event.now.plain.tag) 26 9 refl refl (ap tag_number e) _ c.has.ensures ]
+returns-in-Data c = elim c.in-Data.is [ inl e ↦ out_at (there (parsed_in c.args.event.now.src.now c.args.event.now.plain.now)) (tag_number c.args.event.now.plain.now.tag) 9 9 refl refl (ap tag_number e) _ c.has.ensures | inr e ↦ out_at (there (parsed_in c.args.event.now.src.now c.args.event.now.plain.now)) (tag_number c.args.event.now.plain.now.tag) 26 9 refl refl (ap tag_number e) _ c.has.ensures ]
 
 pub returns-in-Send : goal.returns-in-Send
 unfolding asked_in parsed_in left_out_keys
-returns-in-Send c = out_at (there (parsed_in c.args.event.now.src.now c.args.event.now.plain)) (tag_number c.args.event.now.plain.tag) 19 25 refl refl (ap tag_number c.in-Send.is) _ c.has-in-Send.ensures
+returns-in-Send c = out_at (there (parsed_in c.args.event.now.src.now c.args.event.now.plain.now)) (tag_number c.args.event.now.plain.now.tag) 19 25 refl refl (ap tag_number c.in-Send.is) _ c.has-in-Send.ensures
 
 pub returns-in_default : goal.returns-in_default
 unfolding asked_in parsed_in
-returns-in_default c = out_none (there (parsed_in c.args.event.now.src.now c.args.event.now.plain)) (tag_number c.args.event.now.plain.tag) (tag_apart c.args.event.now.plain.tag T.Include c.in_default.not-Include) (tag_apart c.args.event.now.plain.tag T.Data c.in_default.not-Data) (tag_apart c.args.event.now.plain.tag T.Script c.in_default.not-Script) (tag_apart c.args.event.now.plain.tag T.Send c.in_default.not-Send)
+returns-in_default c = out_none (there (parsed_in c.args.event.now.src.now c.args.event.now.plain.now)) (tag_number c.args.event.now.plain.now.tag) (tag_apart c.args.event.now.plain.now.tag T.Include c.in_default.not-Include) (tag_apart c.args.event.now.plain.now.tag T.Data c.in_default.not-Data) (tag_apart c.args.event.now.plain.now.tag T.Script c.in_default.not-Script) (tag_apart c.args.event.now.plain.now.tag T.Send c.in_default.not-Send)

@@ -9,7 +9,7 @@ use Rattle.entries.proofs.change_invokes.Goals.{in-Some, in_default}
 pub returns : goal.returns
 unfolding invokes_in added_in
 returns c =
-    let e : c.match-p.invokes ≡ added_in (new_invoke c.args.texts.cells.now (tag_number c.args.texts.tag)) c.args.p.added c.args.n c.args.invokes.now =
+    let e : c.match-p.invokes ≡ added_in (new_invoke c.args.texts.cells.now (tag_number c.args.texts.tag)) c.args.p.now.added c.args.n c.args.invokes.now =
     elim c.match-p.branch [ in-Some w ↦ search rules | in_default w ↦ search rules ]
     in
     then_altered (λ p. p.at) (old_invoke c.args.texts.cells.now (tag_number c.args.texts.tag)) _ _ _ _ _ c.in-Some-altered.is e (c.alter.ensures _ (λ x y h. h))

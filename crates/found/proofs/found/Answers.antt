@@ -7,10 +7,10 @@ use Rattle.found.proofs.found.Goals as goal
 pub returns-then-ne : goal.returns-then-ne
 unfolding parsed_in
 returns-then-ne c =
-    found_other c.args.text.now c.args.datums.now c.args.state (parsed_in c.args.event.now.src.now c.args.event.now.plain) (tag_differs c.args.event.now.plain.tag T.Data c.if-ne.ensures)
+    found_other c.args.text.now c.args.datums.now c.args.state (parsed_in c.args.event.now.src.now c.args.event.now.plain.now) (tag_differs c.args.event.now.plain.now.tag T.Data c.if-ne.ensures)
 
 pub returns : goal.returns
 unfolding parsed_in
 returns c =
-    found_data c.args.text.now c.args.datums.now c.args.state (parsed_in c.args.event.now.src.now c.args.event.now.plain) (tag_agrees c.args.event.now.plain.tag T.Data c.if-ne.ensures) _
+    found_data c.args.text.now c.args.datums.now c.args.state (parsed_in c.args.event.now.src.now c.args.event.now.plain.now) (tag_agrees c.args.event.now.plain.now.tag T.Data c.if-ne.ensures) _
     c.value.ensures.result_value _ c.find_datum.ensures

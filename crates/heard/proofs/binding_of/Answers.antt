@@ -10,14 +10,14 @@ use Rattle.heard.proofs.binding_of.Goals as goal
 
 pub returns-then-not-has : goal.returns-then-not-has
 unfolding parsed_in
-returns-then-not-has c = code_none 0 (tag_number c.args.event.now.plain.tag) 5 (loads_in c.args.event.now.src.now (slots_of c.args.event.now.plain)) (sym c.has.ensures ∙ c.if-not-has.true)
+returns-then-not-has c = code_none 0 (tag_number c.args.event.now.plain.now.tag) 5 (loads_in c.args.event.now.src.now (slots_of c.args.event.now.plain.now)) (sym c.has.ensures ∙ c.if-not-has.true)
 
 pub returns-then-ne : goal.returns-then-ne
 unfolding parsed_in
-returns-then-ne c = code_some 0 (tag_number c.args.event.now.plain.tag) 5 (loads_in c.args.event.now.src.now (slots_of c.args.event.now.plain)) (sym c.has.ensures ∙ c.if-not-has.false) _ (binding_other (value_in 5 (loads_in c.args.event.now.src.now (slots_of c.args.event.now.plain))) (tag_number c.args.event.now.plain.tag) (tag_differs c.args.event.now.plain.tag T.Scxml c.if-ne.ensures))
+returns-then-ne c = code_some 0 (tag_number c.args.event.now.plain.now.tag) 5 (loads_in c.args.event.now.src.now (slots_of c.args.event.now.plain.now)) (sym c.has.ensures ∙ c.if-not-has.false) _ (binding_other (value_in 5 (loads_in c.args.event.now.src.now (slots_of c.args.event.now.plain.now))) (tag_number c.args.event.now.plain.now.tag) (tag_differs c.args.event.now.plain.now.tag T.Scxml c.if-ne.ensures))
 
 pub returns : goal.returns
 unfolding parsed_in
 returns c =
-    code_some 0 (tag_number c.args.event.now.plain.tag) 5 (loads_in c.args.event.now.src.now (slots_of c.args.event.now.plain)) (sym c.has.ensures ∙ c.if-not-has.false) _
-    (binding_here c.value.result.now (tag_number c.args.event.now.plain.tag) (tag_agrees c.args.event.now.plain.tag T.Scxml c.if-ne.ensures) _ c.binding_code.ensures ∙ ap (code_of (tag_number c.args.event.now.plain.tag) 5) c.value.ensures.result_value)
+    code_some 0 (tag_number c.args.event.now.plain.now.tag) 5 (loads_in c.args.event.now.src.now (slots_of c.args.event.now.plain.now)) (sym c.has.ensures ∙ c.if-not-has.false) _
+    (binding_here c.value.result.now (tag_number c.args.event.now.plain.now.tag) (tag_agrees c.args.event.now.plain.now.tag T.Scxml c.if-ne.ensures) _ c.binding_code.ensures ∙ ap (code_of (tag_number c.args.event.now.plain.now.tag) 5) c.value.ensures.result_value)

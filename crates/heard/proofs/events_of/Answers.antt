@@ -19,13 +19,13 @@ use Rattle.heard.proofs.events_of.Goals as goal
 
 pub returns-then-ne : goal.returns-then-ne
 unfolding parsed_in
-returns-then-ne c = words_are (tag_number c.args.event.now.plain.tag) 14 (loads_in c.args.event.now.src.now (slots_of c.args.event.now.plain)) _ (events_other (value_in 14 (loads_in c.args.event.now.src.now (slots_of c.args.event.now.plain))) (tag_number c.args.event.now.plain.tag) (tag_differs c.args.event.now.plain.tag T.Transition c.if-ne.ensures))
+returns-then-ne c = words_are (tag_number c.args.event.now.plain.now.tag) 14 (loads_in c.args.event.now.src.now (slots_of c.args.event.now.plain.now)) _ (events_other (value_in 14 (loads_in c.args.event.now.src.now (slots_of c.args.event.now.plain.now))) (tag_number c.args.event.now.plain.now.tag) (tag_differs c.args.event.now.plain.now.tag T.Transition c.if-ne.ensures))
 
 pub returns : goal.returns
 unfolding parsed_in
 returns c =
-    words_are (tag_number c.args.event.now.plain.tag) 14 (loads_in c.args.event.now.src.now (slots_of c.args.event.now.plain)) _
-    (events_here c.value-v.result.now (tag_number c.args.event.now.plain.tag) (tag_agrees c.args.event.now.plain.tag T.Transition c.if-ne.ensures) _ (event_count c.value-v.result.now _ (count_from_yields_List _ _ c.count.ensures.ran (YieldsList-from_first (λ w. record { off = w.off; word = w.word.now }) (λ s. words_left is_space s.v.now s.at) (words_left is_space c.value-v.result.now 0) refl))) ∙ ap (λ (v : List ℕ). length (word_spans (tag_number c.args.event.now.plain.tag) 14 v)) c.value-v.ensures.result_value)
+    words_are (tag_number c.args.event.now.plain.now.tag) 14 (loads_in c.args.event.now.src.now (slots_of c.args.event.now.plain.now)) _
+    (events_here c.value-v.result.now (tag_number c.args.event.now.plain.now.tag) (tag_agrees c.args.event.now.plain.now.tag T.Transition c.if-ne.ensures) _ (event_count c.value-v.result.now _ (count_from_yields_List _ _ c.count.ensures.ran (YieldsList-from_first (λ w. record { off = w.off; word = w.word.now }) (λ s. words_left is_space s.v.now s.at) (words_left is_space c.value-v.result.now 0) refl))) ∙ ap (λ (v : List ℕ). length (word_spans (tag_number c.args.event.now.plain.now.tag) 14 v)) c.value-v.ensures.result_value)
 
 pub count-requires-clause-fits : goal.count-requires-clause-fits
 count-requires-clause-fits c = inl (omega (arith, words_few is_space c.value-v.result.now 0, c.value-v.ensures.result_len_bound))

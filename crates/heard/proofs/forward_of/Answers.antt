@@ -7,4 +7,4 @@ use Rattle.heard.proofs.forward_of.Goals as goal
 
 pub returns : goal.returns
 unfolding parsed_in
-returns c = forward_is c.value.result.now (tag_number c.args.event.now.plain.tag) _ _ c.is_true.ensures (c.from.ensures ∙ yes_is _) ∙ ap (code_of (tag_number c.args.event.now.plain.tag) 13) c.value.ensures.result_value
+returns c = forward_is c.value.result.now (tag_number c.args.event.now.plain.now.tag) _ _ c.is_true.ensures (c.from.ensures ∙ yes_is _) ∙ ap (code_of (tag_number c.args.event.now.plain.now.tag) 13) c.value.ensures.result_value

@@ -21,15 +21,15 @@ use Rattle.heard.proofs.names_of.Goals as goal
 pub returns-then-eq : goal.returns-then-eq
 unfolding parsed_in
 returns-then-eq c =
-    words_are (tag_number c.args.event.now.plain.tag) 12 (loads_in c.args.event.now.src.now (slots_of c.args.event.now.plain)) _
-    (names_here c.value-v.result.now (tag_number c.args.event.now.plain.tag) (sym (ap₂ ◌||◌ (c.eq.ensures ∙ tag_same c.args.event.now.plain.tag T.Send) (c.eq-2.ensures ∙ tag_same c.args.event.now.plain.tag T.Invoke)) ∙ c.if-eq.true) _ (state_count c.value-v.result.now _ (count_from_yields_List _ _ c.count.ensures.ran (YieldsList-from_first (λ w. record { off = w.off; word = w.word.now }) (λ s. words_left is_separator s.v.now s.at) (words_left is_separator c.value-v.result.now 0) refl)))
-    ∙ ap (λ (v : List ℕ). length (word_spans (tag_number c.args.event.now.plain.tag) 12 v)) c.value-v.ensures.result_value)
+    words_are (tag_number c.args.event.now.plain.now.tag) 12 (loads_in c.args.event.now.src.now (slots_of c.args.event.now.plain.now)) _
+    (names_here c.value-v.result.now (tag_number c.args.event.now.plain.now.tag) (sym (ap₂ ◌||◌ (c.eq.ensures ∙ tag_same c.args.event.now.plain.now.tag T.Send) (c.eq-2.ensures ∙ tag_same c.args.event.now.plain.now.tag T.Invoke)) ∙ c.if-eq.true) _ (state_count c.value-v.result.now _ (count_from_yields_List _ _ c.count.ensures.ran (YieldsList-from_first (λ w. record { off = w.off; word = w.word.now }) (λ s. words_left is_separator s.v.now s.at) (words_left is_separator c.value-v.result.now 0) refl)))
+    ∙ ap (λ (v : List ℕ). length (word_spans (tag_number c.args.event.now.plain.now.tag) 12 v)) c.value-v.ensures.result_value)
 
 pub returns : goal.returns
 unfolding parsed_in
 returns c =
-    words_are (tag_number c.args.event.now.plain.tag) 12 (loads_in c.args.event.now.src.now (slots_of c.args.event.now.plain)) _
-    (names_other (value_in 12 (loads_in c.args.event.now.src.now (slots_of c.args.event.now.plain))) (tag_number c.args.event.now.plain.tag) (sym (ap₂ ◌||◌ (c.eq.ensures ∙ tag_same c.args.event.now.plain.tag T.Send) (c.eq-2.ensures ∙ tag_same c.args.event.now.plain.tag T.Invoke)) ∙ c.if-eq.false))
+    words_are (tag_number c.args.event.now.plain.now.tag) 12 (loads_in c.args.event.now.src.now (slots_of c.args.event.now.plain.now)) _
+    (names_other (value_in 12 (loads_in c.args.event.now.src.now (slots_of c.args.event.now.plain.now))) (tag_number c.args.event.now.plain.now.tag) (sym (ap₂ ◌||◌ (c.eq.ensures ∙ tag_same c.args.event.now.plain.now.tag T.Send) (c.eq-2.ensures ∙ tag_same c.args.event.now.plain.now.tag T.Invoke)) ∙ c.if-eq.false))
 
 pub count-requires-clause-fits : goal.count-requires-clause-fits
 count-requires-clause-fits c = inl (omega (arith, words_few is_separator c.value-v.result.now 0, c.value-v.ensures.result_len_bound))

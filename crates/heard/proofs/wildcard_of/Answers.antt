@@ -10,8 +10,8 @@ use Rattle.heard.proofs.wildcard_of.Goals as goal
 
 pub returns-then-ne : goal.returns-then-ne
 unfolding parsed_in
-returns-then-ne c = wildcard_other (value_in 14 (loads_in c.args.event.now.src.now (slots_of c.args.event.now.plain))) (tag_number c.args.event.now.plain.tag) (tag_differs c.args.event.now.plain.tag T.Transition c.if-ne.ensures)
+returns-then-ne c = wildcard_other (value_in 14 (loads_in c.args.event.now.src.now (slots_of c.args.event.now.plain.now))) (tag_number c.args.event.now.plain.now.tag) (tag_differs c.args.event.now.plain.now.tag T.Transition c.if-ne.ensures)
 
 pub returns : goal.returns
 unfolding parsed_in
-returns c = wildcard_here c.value.result.now (tag_number c.args.event.now.plain.tag) (tag_agrees c.args.event.now.plain.tag T.Transition c.if-ne.ensures) _ _ c.is_wildcard.ensures (c.from.ensures ∙ yes_is _) ∙ ap (code_of (tag_number c.args.event.now.plain.tag) 14) c.value.ensures.result_value
+returns c = wildcard_here c.value.result.now (tag_number c.args.event.now.plain.now.tag) (tag_agrees c.args.event.now.plain.now.tag T.Transition c.if-ne.ensures) _ _ c.is_wildcard.ensures (c.from.ensures ∙ yes_is _) ∙ ap (code_of (tag_number c.args.event.now.plain.now.tag) 14) c.value.ensures.result_value

@@ -15,7 +15,7 @@ overflow_cast-row c = omega (arith, found_small c.args.used.text.now c.args.used
 
 pub returns : goal.returns
 returns c =
-    looked_is c.args.used.chart.now c.args.used.states.now c.args.used.datums.now c.args.used.opened.now c.args.used.open_names.now c.args.used.text.now c.args.position c.index-event.result.src.now c.index-event.result.plain _
+    looked_is c.args.used.chart.now c.args.used.states.now c.args.used.datums.now c.args.used.opened.now c.args.used.open_names.now c.args.used.text.now c.args.position c.index-event.result.src.now c.index-event.result.plain.now _
     c.look_names-names.ensures _ c.inside.ensures _ c.found-row.ensures _ c.heard-heard.ensures _ c.bytes_of.ensures.result_value _
     (c.is_innermost.ensures ∙ ap (λ (g : ℕ). is_innermost c.args.used.opened.now c.args.used.open_names.now g c.bytes_of.result.now) c.number.ensures) _ c.inside-parent.ensures _ c.root_of-root.ensures _
     c.first_no.ensures _ c.is_made-made.ensures _ c.charge.ensures.value

@@ -10,16 +10,16 @@ use Rattle.names.proofs.look_names.Goals as goal
 
 pub returns-then-eq : goal.returns-then-eq
 unfolding parsed_in
-returns-then-eq c = names_end c.args.drawn (parsed_in c.args.event.now.src.now c.args.event.now.plain) c.args.text.now (name_cells c.args.states.now) _ (kind_is c.args.event.now.plain.kind K.End c.if-eq.ensures) c.none.ensures
+returns-then-eq c = names_end c.args.drawn (parsed_in c.args.event.now.src.now c.args.event.now.plain.now) c.args.text.now (name_cells c.args.states.now) _ (kind_is c.args.event.now.plain.now.kind K.End c.if-eq.ensures) c.none.ensures
 
 pub returns-then-names_state : goal.returns-then-names_state
 unfolding parsed_in
-returns-then-names_state c = names_state_lem c.args.drawn (parsed_in c.args.event.now.src.now c.args.event.now.plain) c.args.text.now (name_cells c.args.states.now) _ (kind_not c.args.event.now.plain.kind K.End c.if-eq.ensures) _ (c.names_state.ensures ∙ ap names_state c.number.ensures) c.if-names_state.true c.look_state.ensures
+returns-then-names_state c = names_state_lem c.args.drawn (parsed_in c.args.event.now.src.now c.args.event.now.plain.now) c.args.text.now (name_cells c.args.states.now) _ (kind_not c.args.event.now.plain.now.kind K.End c.if-eq.ensures) _ (c.names_state.ensures ∙ ap names_state c.number.ensures) c.if-names_state.true c.look_state.ensures
 
 pub returns-then-eq-2 : goal.returns-then-eq-2
 unfolding parsed_in
-returns-then-eq-2 c = names_transition c.args.drawn (parsed_in c.args.event.now.src.now c.args.event.now.plain) c.args.text.now (name_cells c.args.states.now) _ (kind_not c.args.event.now.plain.kind K.End c.if-eq.ensures) _ (c.names_state.ensures ∙ ap names_state c.number.ensures) c.if-names_state.false (tag_is c.args.event.now.plain.tag T.Transition c.if-eq-2.ensures) _ c.value.ensures.result_value c.count_names.ensures.value
+returns-then-eq-2 c = names_transition c.args.drawn (parsed_in c.args.event.now.src.now c.args.event.now.plain.now) c.args.text.now (name_cells c.args.states.now) _ (kind_not c.args.event.now.plain.now.kind K.End c.if-eq.ensures) _ (c.names_state.ensures ∙ ap names_state c.number.ensures) c.if-names_state.false (tag_is c.args.event.now.plain.now.tag T.Transition c.if-eq-2.ensures) _ c.value.ensures.result_value c.count_names.ensures.value
 
 pub returns : goal.returns
 unfolding parsed_in
-returns c = names_other c.args.drawn (parsed_in c.args.event.now.src.now c.args.event.now.plain) c.args.text.now (name_cells c.args.states.now) _ (kind_not c.args.event.now.plain.kind K.End c.if-eq.ensures) _ (c.names_state.ensures ∙ ap names_state c.number.ensures) c.if-names_state.false (tag_not c.args.event.now.plain.tag T.Transition c.if-eq-2.ensures) c.none-2.ensures
+returns c = names_other c.args.drawn (parsed_in c.args.event.now.src.now c.args.event.now.plain.now) c.args.text.now (name_cells c.args.states.now) _ (kind_not c.args.event.now.plain.now.kind K.End c.if-eq.ensures) _ (c.names_state.ensures ∙ ap names_state c.number.ensures) c.if-names_state.false (tag_not c.args.event.now.plain.now.tag T.Transition c.if-eq-2.ensures) c.none-2.ensures
